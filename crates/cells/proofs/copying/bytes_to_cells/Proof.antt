@@ -1,0 +1,79 @@
+-- After `done` turns the first `done` bytes of the block are placed.
+use Prim.Native.Nat.{_+_, _-_, _≤_}
+use mathlib.Core.Path.{sym}
+use native.Mathlib.Omega.{arith}
+use borrow.Author.Needs.{needs}
+use Rattle.cells.specs.Block.{block}
+use Rattle.cells.proofs.Blocks.{Rising, rising-start, rising-step, rising-end, block-length, block-at}
+use Rattle.cells.proofs.copying.bytes_to_cells.Statement.{statement}
+use Rattle.cells.proofs.copying.bytes_to_cells.Tie as tie
+
+abbrev Inv-loop : tie.InvT-loop
+Inv-loop bytes from cells₀ to count done₀ cells done = (done ≤ count) × Rising to (block from count bytes) cells₀ done cells
+
+abbrev μ-loop : tie.MeasureT-loop
+μ-loop bytes from cells₀ to count done₀ cells done = count - done
+
+loop-holds : tie.Need-loop-holds Inv-loop μ-loop
+loop-holds c = (omega arith, rising-start)
+
+add-cells : tie.Need-add-cells Inv-loop μ-loop
+add-cells c = search needs
+
+shared-slice-read-cells : tie.Need-shared-slice-read-cells Inv-loop μ-loop
+shared-slice-read-cells c = search needs
+
+cast-cells : tie.Need-cast-cells Inv-loop μ-loop
+cast-cells c =
+    let a = c .before .before .before .args in
+    omega (arith, c .shared-slice-known .given (a .from + c .before .before .loop .done))
+
+add-cells-2 : tie.Need-add-cells-2 Inv-loop μ-loop
+add-cells-2 c = search needs
+
+mul-cells : tie.Need-mul-cells Inv-loop μ-loop
+mul-cells c = search needs
+
+slice-write-cells : tie.Need-slice-write-cells Inv-loop μ-loop
+slice-write-cells c = search needs
+
+add-done : tie.Need-add-done Inv-loop μ-loop
+add-done c = search needs
+
+loop-less : tie.Need-loop-less Inv-loop μ-loop
+loop-less c = search needs
+
+loop-again : tie.Need-loop-again Inv-loop μ-loop
+loop-again c =
+    let a = c .before .before .before .args in
+    let l = c .before .before .loop in
+    let n = block-length (a .from) (a .count) (a .bytes .now) (omega arith) in
+    (omega arith, rising-step (l .inv .1) (omega arith) (omega arith) (sym (block-at (a .from) (a .count) (a .bytes .now) (l .done) (omega arith))))
+
+same-length : tie.Need-same-length Inv-loop μ-loop
+same-length c = search needs
+
+returns : tie.Need-returns Inv-loop μ-loop
+returns c =
+    let a = c .before .before .args in
+    let n = block-length (a .from) (a .count) (a .bytes .now) (omega arith) in
+    rising-end (c .before .loop .inv .1) (omega arith)
+
+pub bytes-to-cells-spec : {M : Type 1} → statement M
+bytes-to-cells-spec =
+    tie.close
+    (tie.spec
+    Inv-loop
+    μ-loop
+    loop-holds
+    add-cells
+    shared-slice-read-cells
+    cast-cells
+    add-cells-2
+    mul-cells
+    slice-write-cells
+    add-done
+    loop-less
+    loop-again
+    same-length
+    returns)

@@ -1,0 +1,9 @@
+pub mod Ranges
+pub mod Machine
+pub mod Results
+pub mod Reading
+pub mod Digits
+pub mod Texts
+pub mod Bytes
+pub mod Laws
+pub mod Examples

@@ -1,0 +1,106 @@
+-- What each branch of the operations answers is the definition's result.
+use Prim.Native.Nat.{ℕ, zero, suc}
+use mathlib.Core.Path.{_≡_, refl, sym, ap, _∙_}
+use mathlib.Core.Bool.{true, false, not}
+use mathlib.Core.List.{List}
+use mathlib.Core.Option.{Option, none, some}
+use lib.Dec.{T, eqb·suc-zero}
+use lib.IntN.{ℤ, pos, negsuc, negℤ, _-ℤ_}
+use lib.Signed.{ltZ}
+use mir.Syntax.{w32, w64}
+use mir.Val.{SFits, ofZ, toZ}
+use mir.Facts.{toZ-ofZ}
+use Rattle.decimal.proofs.Ranges.{true-of, in-range, below-range, above-range, within-range, range-fits}
+use Rattle.decimal.proofs.Machine.{read-bits, negation-fits, negated-is, wide, wide-exact, divided-fits, divided-exact, quotient-minus-one, remainder-minus-one}
+use Rattle.decimal.specs.declared.operations.Operation.{Operation}
+use Rattle.decimal.specs.declared.operations.Operation.the-variants.{Sum, Difference, Product, Quotient, Remainder}
+use Rattle.decimal.specs.declared.reader.Operand.{Operand}
+use Rattle.decimal.specs.Operand.{operand, inRange}
+use Rattle.decimal.specs.Arithmetic.{number, refused, exact, divides, isZero, ranged, ofNumbers, ofOperands, calculated}
+use Rattle.decimal.specs.Answers.{operandOf, numberOf}
+
+-- a number in range is its own result
+in-is-number : (z : ℤ) → inRange z ≡ true → number z ≡ ranged z
+in-is-number z e = rw e
+
+-- a number out of range is refused
+out-is-refused : (z : ℤ) → inRange z ≡ false → refused 24 ≡ ranged z
+out-is-refused z e = rw e
+
+-- `ranged` refuses below the range
+pub below-refused : {z : ℤ} → SFits w64 z → ltZ (toZ w64 (ofZ w64 z)) (negsuc 2147483647) ≡ true → refused 24 ≡ ranged z
+below-refused {z} f e = out-is-refused z (below-range z (rw (toZ-ofZ f) at e))
+
+-- and above it
+pub above-refused : {z : ℤ} → SFits w64 z → ltZ (pos 2147483647) (toZ w64 (ofZ w64 z)) ≡ true → refused 24 ≡ ranged z
+above-refused {z} f e = out-is-refused z (above-range z (rw (toZ-ofZ f) at e))
+
+module _ {z : ℤ} (f : SFits w64 z) (low : ltZ (toZ w64 (ofZ w64 z)) (negsuc 2147483647) ≡ false) (high : ltZ (pos 2147483647) (toZ w64 (ofZ w64 z)) ≡ false) where
+  -- within the range
+  within : inRange z ≡ true
+  within = within-range z (rw (toZ-ofZ f) at low) (rw (toZ-ofZ f) at high)
+
+  -- the cast to 32 bits fits
+  pub within-fits : SFits w32 (toZ w64 (ofZ w64 z))
+  within-fits = rw (toZ-ofZ f) (range-fits z within)
+
+  -- and keeps the number
+  pub within-number : number (toZ w32 (ofZ w32 (toZ w64 (ofZ w64 z)))) ≡ ranged z
+  within-number = ap number (toZ-ofZ within-fits ∙ toZ-ofZ f) ∙ in-is-number z within
+
+-- `negated` refuses the smallest number
+pub smallest-negated : {z : ℤ} → SFits w32 z → ofZ w32 z ≡ 2147483648 → refused 24 ≡ ranged (negℤ z)
+smallest-negated f e = rw (read-bits f e)
+
+-- and negates any other
+pub negated-number : {z : ℤ} → SFits w32 z → (ofZ w32 z ≡ 2147483648 → ⊥) → number (toZ w32 (ofZ w32 (pos 0 -ℤ toZ w32 (ofZ w32 z)))) ≡ ranged (negℤ z)
+negated-number {z} f n = ap number (negated-is z f n) ∙ in-is-number (negℤ z) (in-range (negℤ z) (negation-fits z f n .sfits))
+
+-- a sum, a difference and a product in 64 bits, ranged
+pub wide-ranged : (op : Operation) {a b : ℤ} → T (not (divides op)) → SFits w32 a → SFits w32 b → ranged (toZ w64 (ofZ w64 (exact op (wide a) (wide b)))) ≡ ofNumbers op a b
+wide-ranged op {a} {b} h f g = ap ranged (wide-exact op a b h f g) ∙ undivided op h
+  where
+    undivided : (op : Operation) → T (not (divides op)) → ranged (exact op a b) ≡ ofNumbers op a b
+    undivided Sum k = refl
+    undivided Difference k = refl
+    undivided Product k = refl
+    undivided Quotient k = absurd k
+    undivided Remainder k = absurd k
+
+-- two numbers that were passed on are the numbers
+pub passed : (op : Operation) (a b : ℤ) → SFits w32 a → SFits w32 b → ofNumbers op (toZ w32 (ofZ w32 a)) (toZ w32 (ofZ w32 b)) ≡ ofNumbers op a b
+passed op a b f g = rw (toZ-ofZ f, toZ-ofZ g)
+
+-- a quotient and a remainder by zero are refused
+pub by-zero : (op : Operation) (a b : ℤ) → T (divides op) → SFits w32 b → ofZ w32 b ≡ 0 → refused 23 ≡ ofNumbers op a b
+by-zero op a b h f e = rw (read-bits f e, true-of (divides op) h)
+
+-- a quotient by -1 is the ranged negation
+pub quotient-by-minus-one : {a b : ℤ} → SFits w32 a → SFits w32 b → ofZ w32 b ≡ 4294967295 → ranged (negℤ (toZ w32 (ofZ w32 a))) ≡ ofNumbers Quotient a b
+quotient-by-minus-one {a} f g e = ap ranged (ap negℤ (toZ-ofZ f) ∙ sym (quotient-minus-one a)) ∙ rw (read-bits g e)
+
+-- a remainder by -1 is zero
+pub remainder-by-minus-one : {a b : ℤ} → SFits w32 a → SFits w32 b → ofZ w32 b ≡ 4294967295 → number (pos 0) ≡ ofNumbers Remainder a b
+remainder-by-minus-one {a} f g e = ap ranged (sym (remainder-minus-one a)) ∙ rw (read-bits g e)
+
+-- a divisor whose bits are not zero is not zero
+not-zero : (b : ℤ) → (ofZ w32 b ≡ 0 → ⊥) → isZero b ≡ false
+not-zero (pos zero) n = absurd (n refl)
+not-zero (pos (suc b)) n = eqb·suc-zero b
+not-zero (negsuc b) n = eqb·suc-zero b
+
+-- by any other divisor both are the machine's
+pub divided-number : (op : Operation) {a b : ℤ} → T (divides op) → SFits w32 a → SFits w32 b → (ofZ w32 b ≡ 0 → ⊥) → (ofZ w32 b ≡ 4294967295 → ⊥)
+    → number (toZ w32 (ofZ w32 (exact op (toZ w32 (ofZ w32 a)) (toZ w32 (ofZ w32 b))))) ≡ ofNumbers op a b
+divided-number op {a} {b} h f g n m =
+    ap number (divided-exact op a b h f g m) ∙ in-is-number (exact op a b) (in-range (exact op a b) (divided-fits op a b h f m .sfits)) ∙ rw (true-of (divides op) h, not-zero b n)
+
+-- an operand that was read is the number that its text is
+number-operand : (o : Option ℤ) → numberOf (operandOf o) ≡ o
+number-operand none = refl
+number-operand (some z) = refl
+
+-- so an operation on two that were read is the operation on the texts
+pub of-read : (op : Operation) {l r : Operand} (left right : List ℕ) → l ≡ operandOf (operand left) → r ≡ operandOf (operand right)
+    → ofOperands op (numberOf l) (numberOf r) ≡ calculated op left right
+of-read op left right e f = rw (e, f, number-operand (operand left), number-operand (operand right))

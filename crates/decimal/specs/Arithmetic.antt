@@ -1,0 +1,70 @@
+-- Document 01, Arithmetic: what each of the five operations gives for two operands.
+use Prim.Native.Nat.{ℕ}
+use mathlib.Core.Bool.{Bool, true, false, cond, _&&_}
+use mathlib.Core.List.{List}
+use mathlib.Core.Option.{Option, none, some}
+use lib.Dec.{eqb}
+use lib.IntN.{ℤ, pos, negsuc, natAbs, _+ℤ_, _-ℤ_, _*ℤ_}
+use lib.Signed.{quotZ, remZ}
+use Rattle.decimal.specs.declared.operations.Operation.{Operation}
+use Rattle.decimal.specs.declared.operations.Operation.the-variants.{Sum, Difference, Product, Quotient, Remainder}
+use Rattle.decimal.specs.Operand.{operand, inRange}
+
+-- "The quotient is cut towards zero"
+abbrev pub quotientOf : ℤ → ℤ → ℤ
+quotientOf a b = quotZ a b
+
+-- "the remainder has the dividend's sign"
+abbrev pub remainderOf : ℤ → ℤ → ℤ
+remainderOf a b = remZ a b
+
+-- the operation on integers, with no bound on the result
+abbrev pub exact : Operation → ℤ → ℤ → ℤ
+exact Sum a b = a +ℤ b
+exact Difference a b = a -ℤ b
+exact Product a b = a *ℤ b
+exact Quotient a b = quotientOf a b
+exact Remainder a b = remainderOf a b
+
+-- the operations that have a divisor
+abbrev pub divides : Operation → Bool
+divides Sum = false
+divides Difference = false
+divides Product = false
+divides Quotient = true
+divides Remainder = true
+
+-- 22: not a number in range; 23: divisor zero; 24: result out of range
+abbrev pub notANumber : ℕ
+notANumber = 22
+
+abbrev pub divisorZero : ℕ
+divisorZero = 23
+
+abbrev pub resultOutOfRange : ℕ
+resultOutOfRange = 24
+
+pub data Result : Type 0 where
+  number : ℤ → Result
+  refused : ℕ → Result
+
+abbrev pub isZero : ℤ → Bool
+isZero z = eqb (natAbs z) 0
+
+-- a number, or 24 where it is out of range
+abbrev pub ranged : ℤ → Result
+ranged z = cond (inRange z) (number z) (refused resultOutOfRange)
+
+-- two numbers in range: "23, 24"
+abbrev pub ofNumbers : Operation → ℤ → ℤ → Result
+ofNumbers op a b = cond (divides op && isZero b) (refused divisorZero) (ranged (exact op a b))
+
+-- "First operand's 22, second's 22, 23, 24."
+abbrev pub ofOperands : Operation → Option ℤ → Option ℤ → Result
+ofOperands op none right = refused notANumber
+ofOperands op (some a) none = refused notANumber
+ofOperands op (some a) (some b) = ofNumbers op a b
+
+-- the operation on two texts
+abbrev pub calculated : Operation → List ℕ → List ℕ → Result
+calculated op left right = ofOperands op (operand left) (operand right)

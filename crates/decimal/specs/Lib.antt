@@ -1,0 +1,4 @@
+pub mod Operand
+pub mod Shortest
+pub mod Arithmetic
+pub mod Answers

@@ -1,0 +1,124 @@
+// The five operations on operands that were read.
+use crate::reader::Operand;
+use crate::shortest::Decimal;
+ghost use mathlib.Core.Path.{_≡_};
+ghost use lib.IntN.{negℤ};
+ghost use Rattle.decimal.specs.Arithmetic.{number, refused, ofOperands, ofNumbers, ranged};
+ghost use Rattle.decimal.specs.Answers.{answerOf, numberOf};
+
+pub enum Operation {
+    Sum,
+    Difference,
+    Product,
+    Quotient,
+    Remainder,
+}
+
+// The outcome, 0 or 22 to 24, and the result's text, which is empty on a refusal.
+pub struct Answer {
+    pub outcome: u32,
+    pub decimal: Decimal,
+}
+
+impl Operation {
+    // "First operand's 22, second's 22, 23, 24."
+    pub fn of(self, left: Operand, right: Operand) -> Answer
+        ensures { λ r. ⌜ r ≡ answerOf (ofOperands self (numberOf left) (numberOf right)) ⌝ }
+    {
+        let Operand::Number(first) = left else {
+            return Answer::refused(Answer::NOT_A_NUMBER);
+        };
+        let Operand::Number(second) = right else {
+            return Answer::refused(Answer::NOT_A_NUMBER);
+        };
+        self.of_numbers(first, second)
+    }
+
+    fn of_numbers(self, first: i32, second: i32) -> Answer
+        ensures { λ r. ⌜ r ≡ answerOf (ofNumbers self first second) ⌝ }
+    {
+        let left = first as i64;
+        let right = second as i64;
+        match self {
+            Operation::Sum => Answer::ranged(left + right),
+            Operation::Difference => Answer::ranged(left - right),
+            Operation::Product => Answer::ranged(left * right),
+            Operation::Quotient => quotient(first, second),
+            Operation::Remainder => remainder(first, second),
+        }
+    }
+}
+
+impl Answer {
+    const NOT_A_NUMBER: u32 = 22;
+
+    const DIVISOR_ZERO: u32 = 23;
+
+    const OUT_OF_RANGE: u32 = 24;
+
+    fn refused(outcome: u32) -> Answer
+        ensures { λ r. ⌜ r ≡ answerOf (refused outcome) ⌝ }
+    {
+        Answer {
+            outcome,
+            decimal: Decimal::new(),
+        }
+    }
+
+    fn number(value: i32) -> Answer
+        ensures { λ r. ⌜ r ≡ answerOf (number value) ⌝ }
+    {
+        Answer {
+            outcome: 0,
+            decimal: Decimal::of(value),
+        }
+    }
+
+    // The number, or 24 where it is out of range.
+    fn ranged(value: i64) -> Answer
+        ensures { λ r. ⌜ r ≡ answerOf (ranged value) ⌝ }
+    {
+        if value < -2147483648 {
+            return Answer::refused(Answer::OUT_OF_RANGE);
+        }
+        if value > 2147483647 {
+            return Answer::refused(Answer::OUT_OF_RANGE);
+        }
+        Answer::number(value as i32)
+    }
+}
+
+// Cut towards zero. The only quotient out of range is that of the smallest number by -1, its negation.
+fn quotient(dividend: i32, divisor: i32) -> Answer
+    ensures { λ r. ⌜ r ≡ answerOf (ofNumbers Operation.Quotient dividend divisor) ⌝ }
+{
+    if divisor == 0 {
+        return Answer::refused(Answer::DIVISOR_ZERO);
+    }
+    if divisor == -1 {
+        return negated(dividend);
+    }
+    Answer::number(dividend / divisor)
+}
+
+fn negated(value: i32) -> Answer
+    ensures { λ r. ⌜ r ≡ answerOf (ranged (negℤ value)) ⌝ }
+{
+    if value == -2147483648 {
+        return Answer::refused(Answer::OUT_OF_RANGE);
+    }
+    Answer::number(-value)
+}
+
+// With the dividend's sign. By -1 it is 0, also for the smallest number.
+fn remainder(dividend: i32, divisor: i32) -> Answer
+    ensures { λ r. ⌜ r ≡ answerOf (ofNumbers Operation.Remainder dividend divisor) ⌝ }
+{
+    if divisor == 0 {
+        return Answer::refused(Answer::DIVISOR_ZERO);
+    }
+    if divisor == -1 {
+        return Answer::number(0);
+    }
+    Answer::number(dividend % divisor)
+}

@@ -1,0 +1,11 @@
+pub mod Prices
+pub mod Leads
+pub mod Frames
+pub mod Runs
+pub mod Agree
+pub mod Depth
+pub mod Quotes
+pub mod Limits
+pub mod Demand
+pub mod Table
+pub mod Cases

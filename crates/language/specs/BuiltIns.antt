@@ -1,0 +1,83 @@
+-- Document 01: the built-ins, what each needs, its checks in their order and its result.
+use Prim.Native.Nat.{ℕ, zero, suc, _<_}
+use mathlib.Core.Bool.{Bool, true, false, cond}
+use mathlib.Core.List.{List, [], _∷_}
+use lib.ListN.{length, getD}
+use lib.Dec.{ltb}
+use Rattle.decimal.specs.declared.operations.Operation.the-variants.{Sum, Difference, Product, Quotient, Remainder}
+use Rattle.decimal.specs.Arithmetic.{Result, number, refused, calculated}
+use Rattle.decimal.specs.Shortest.{shortest}
+use Rattle.language.specs.Signs.{Bytes, ascii}
+use Rattle.language.specs.Outcomes
+use Rattle.language.specs.Definitions.{BuiltIn, def, val, update, arithmetic, Content, macro, builtIn, Definition, Found, found, missing, newest, among}
+
+-- "The built-in names are these fixed byte strings: `DEF`, `VAL`, `UPDATE`, `+`, `-`, `*`, `Quot`, `Rem`."
+abbrev pub named : Bytes → BuiltIn → Definition
+named n b = record { name = n; content = builtIn b }
+
+abbrev pub builtIns : List Definition
+builtIns =
+    named (ascii "DEF") def ∷
+    named (ascii "VAL") val ∷
+    named (ascii "UPDATE") update ∷
+    named (ascii "+") (arithmetic Sum) ∷
+    named (ascii "-") (arithmetic Difference) ∷
+    named (ascii "*") (arithmetic Product) ∷
+    named (ascii "Quot") (arithmetic Quotient) ∷
+    named (ascii "Rem") (arithmetic Remainder) ∷
+    []
+
+-- "VAL needs one parameter, the others two. Surplus parameters are ignored."
+abbrev pub needs : BuiltIn → ℕ
+needs def = 2
+needs val = 1
+needs update = 2
+needs (arithmetic op) = 2
+
+-- parameter r of a call, 0 being its name
+abbrev pub parameter : ℕ → List Bytes → Bytes
+parameter r list = getD list r []
+
+-- what an applied call does: the body of definition number k is read; a definition is added; text is given; the value of
+-- definition number k is altered; or a fault
+pub data Deed : Type 0 where
+  reads : ℕ → Bytes → Deed
+  defines : Bytes → Bytes → Deed
+  gives : Bytes → Deed
+  alters : ℕ → Bytes → Deed
+  faulty : ℕ → Deed
+
+-- "VAL: 15, 19."
+abbrev pub valueOf : Found → Deed
+valueOf missing = faulty Outcomes.notDefined
+valueOf (found k (builtIn b)) = faulty Outcomes.isBuiltIn
+valueOf (found k (macro v room)) = gives v
+
+-- "For UPDATE: 15 for the name given, 19, 20, 21."
+abbrev pub updateOf : List ℕ → Bytes → Found → Deed
+updateOf reading w missing = faulty Outcomes.notDefined
+updateOf reading w (found k (builtIn b)) = faulty Outcomes.isBuiltIn
+updateOf reading w (found k (macro v room)) =
+    cond (among k reading) (faulty Outcomes.bodyBeingRead) (cond (ltb room (length w)) (faulty Outcomes.valueTooLong) (alters k w))
+
+abbrev pub resultOf : Result → Deed
+resultOf (number z) = gives (shortest z)
+resultOf (refused outcome) = faulty outcome
+
+-- a built-in that has its parameters, where the definitions ds stand and the bodies `reading` are being read
+abbrev pub performed : List ℕ → List Bytes → List Definition → BuiltIn → Deed
+performed reading list ds def = defines (parameter 1 list) (parameter 2 list)
+performed reading list ds val = valueOf (newest (parameter 1 list) ds)
+performed reading list ds update = updateOf reading (parameter 2 list) (newest (parameter 1 list) ds)
+performed reading list ds (arithmetic op) = resultOf (calculated op (parameter 1 list) (parameter 2 list))
+
+-- "Checks at `;`: .. 15, 13, then the built-in's": the call with this name and parameters
+abbrev pub deedOf : List ℕ → List Bytes → List Definition → Found → Deed
+deedOf reading list ds missing = faulty Outcomes.notDefined
+deedOf reading list ds (found k (macro v room)) = reads k v
+deedOf reading list ds (found k (builtIn b)) =
+    let d = performed reading list ds b in
+    cond (ltb (needs b) (length list)) d (faulty Outcomes.notSupplied)
+
+unfoldable pub deed : List ℕ → List Bytes → List Definition → Deed
+deed reading list ds = deedOf reading list ds (newest (parameter 0 list) ds)

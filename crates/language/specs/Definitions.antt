@@ -1,0 +1,76 @@
+-- Document 01: definitions, newest first, the built-ins the oldest of them.
+use Prim.Native.Nat.{ℕ, zero, suc, _+_, _-_}
+use mathlib.Core.Bool.{Bool, true, false, cond, _&&_, _||_}
+use mathlib.Core.List.{List, [], _∷_, _++_}
+use lib.ListN.{length, take, drop}
+use lib.Dec.{eqb}
+use Rattle.language.specs.Signs.{Bytes}
+use Rattle.decimal.specs.declared.operations.Operation.{Operation}
+
+pub data BuiltIn : Type 0 where
+  def val update : BuiltIn
+  arithmetic : Operation → BuiltIn
+
+-- "UPDATE changes the newest definition's value; its permitted length remains that of its DEF."
+pub data Content : Type 0 where
+  macro : Bytes → ℕ → Content
+  builtIn : BuiltIn → Content
+
+pub record Definition : Type 0 where
+  pub name : Bytes
+  pub content : Content
+
+abbrev pub defined : Bytes → Bytes → Definition
+defined n v = record { name = n; content = macro v (length v) }
+
+unfoldable pub same : Bytes → Bytes → Bool
+same [] [] = true
+same [] (y ∷ ys) = false
+same (x ∷ xs) [] = false
+same (x ∷ xs) (y ∷ ys) = eqb x y && same xs ys
+
+-- the newest definition with a name: its number, counted from the oldest, and its content
+pub data Found : Type 0 where
+  found : ℕ → Content → Found
+  missing : Found
+
+unfoldable pub newest : Bytes → List Definition → Found
+newest n [] = missing
+newest n (d ∷ ds) = let r = newest n ds in cond (same n (d .name)) (found (length ds) (d .content)) r
+
+abbrev pub valued : Bytes → Content → Content
+valued v (macro w room) = macro v room
+valued v (builtIn b) = builtIn b
+
+-- "UPDATE alters the value where the definition stands": that of the definition with this number
+unfoldable pub altered : ℕ → Bytes → List Definition → List Definition
+altered k v [] = []
+altered k v (d ∷ ds) = let r = altered k v ds in cond (eqb k (length ds)) (record { name = d .name; content = valued v (d .content) } ∷ ds) (d ∷ r)
+
+-- the oldest n definitions: those that stood when there were n
+abbrev pub oldest : ℕ → List Definition → List Definition
+oldest n ds = drop (length ds - n) ds
+
+-- those made since there were n
+abbrev pub newer : ℕ → List Definition → List Definition
+newer n ds = take (length ds - n) ds
+
+-- those made after there were n and before there were m, and all but those
+abbrev pub between : ℕ → ℕ → List Definition → List Definition
+between n m ds = newer n (oldest m ds)
+
+abbrev pub without : ℕ → ℕ → List Definition → List Definition
+without n m ds = newer m ds ++ oldest n ds
+
+-- "live definitions (built-ins not counted)"
+abbrev pub counts : Content → ℕ
+counts (macro v room) = 1
+counts (builtIn b) = 0
+
+unfoldable pub live : List Definition → ℕ
+live [] = 0
+live (d ∷ ds) = counts (d .content) + live ds
+
+unfoldable pub among : ℕ → List ℕ → Bool
+among k [] = false
+among k (j ∷ js) = eqb k j || among k js

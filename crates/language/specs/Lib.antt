@@ -1,0 +1,11 @@
+pub mod Signs
+pub mod Outcomes
+pub mod Definitions
+pub mod BuiltIns
+pub mod Charge
+pub mod Ends
+pub mod Scanning
+pub mod Substitution
+pub mod Matched
+pub mod Product
+pub mod Demand
