@@ -55,7 +55,7 @@ framesBelow outermost = zero-le
 framesBelow (collecting a b f) = omega arith
 framesBelow (reading a b c d f) = omega arith
 
--- "a call is applied in the body in which it was opened": where a call of the body being read is open, the innermost frame
+-- A call is applied in the body in which it was opened: where a call of the body being read is open, the innermost frame
 -- is that call; where none is, it is the body
 pub framesOwn : {c : Call} {cs : List Call} {bs : List Body} {n : ℕ} → Frames (c ∷ cs) bs n → callsBelow bs < length (c ∷ cs)
     → (c .stood ≤ n) × (callsBelow bs ≤ length cs) × Frames cs bs (c .stood)

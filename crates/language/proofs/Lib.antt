@@ -5,6 +5,7 @@ pub mod Runs
 pub mod Agree
 pub mod Depth
 pub mod Quotes
+pub mod Octets
 pub mod Limits
 pub mod Demand
 pub mod Table

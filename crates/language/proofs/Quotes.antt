@@ -28,7 +28,7 @@ use Rattle.language.specs.Scanning as S
 use Rattle.language.specs.Matched.{depthBy, depthAfter, Matched, All, empty, with, Innermost, CallMatches, BodyMatches, ContentMatches, ValueMatches, depthWritten, QuotesMatch, DigitsPlain}
 
 -- whichever of two is taken, where both have a property
-either : {A : Type 0} (P : A → Type 0) (t : Bool) {a b : A} → P a → P b → P (cond t a b)
+pub either : {A : Type 0} (P : A → Type 0) (t : Bool) {a b : A} → P a → P b → P (cond t a b)
 either P true p q = p
 either P false p q = q
 
@@ -36,24 +36,24 @@ either P false p q = q
 
 module _ {A : Type 0} {P : A → Type 0} where
   -- of two lists, one behind the other
-  all-append : {xs ys : List A} → All P xs → All P ys → All P (xs ++ ys)
+  pub all-append : {xs ys : List A} → All P xs → All P ys → All P (xs ++ ys)
   all-append empty q = q
   all-append (with p ps) q = with p (all-append ps q)
 
   -- of the first n
-  all-take : (n : ℕ) {xs : List A} → All P xs → All P (take n xs)
+  pub all-take : (n : ℕ) {xs : List A} → All P xs → All P (take n xs)
   all-take zero p = empty
   all-take (suc n) empty = empty
   all-take (suc n) (with p ps) = with p (all-take n ps)
 
   -- of all but the first n
-  all-drop : (n : ℕ) {xs : List A} → All P xs → All P (drop n xs)
+  pub all-drop : (n : ℕ) {xs : List A} → All P xs → All P (drop n xs)
   all-drop zero p = p
   all-drop (suc n) empty = empty
   all-drop (suc n) (with p ps) = all-drop n ps
 
   -- of element n, or of what stands for one that is missing
-  all-getD : (d : A) → P d → {xs : List A} → All P xs → (n : ℕ) → P (getD xs n d)
+  pub all-getD : (d : A) → P d → {xs : List A} → All P xs → (n : ℕ) → P (getD xs n d)
   all-getD d z empty n = z
   all-getD d z (with p ps) zero = p
   all-getD d z (with p ps) (suc n) = all-getD d z ps n

@@ -15,7 +15,7 @@ use Rattle.language.specs.Ends.{End, reported}
 use Rattle.language.specs.Substitution.{substituted}
 use Rattle.language.specs.Product.{Left, tooLarge, overwritten}
 
--- "recursive substitution of that text comes to such an end and what was lent is at least what substitution counted"
+-- Demand 3: substitution of the text comes to the end e at some depth, and what was lent is at least what it counted
 pub record Affords (T : Table) (text : Bytes) (ds : List Definition) (cells output allowance : ℕ) (e : End) : Type 0 where
   pub depth : ℕ
   pub comes : substituted T depth text ds ≡ some e
@@ -23,8 +23,8 @@ pub record Affords (T : Table) (text : Bytes) (ds : List Definition) (cells outp
   pub enoughOutput : length (e .output) ≤ output
   pub enoughScans : e .scans ≤ allowance
 
--- "A run finishes or meets a fault of the text exactly when .. ; it then has that end's outcome, output, counts and standing
--- definitions": the end of the run is such an end e if and only if substitution comes to e and e can be afforded
+-- Demand 3: the end of a run is an end e that finishes or is a fault of the text, if and only if substitution comes to e and
+-- e can be afforded; e holds outcome, output, counts and standing definitions
 abbrev pub Demand3 : Table → Bytes → List Definition → ℕ → ℕ → ℕ → End → Type 0
 Demand3 T text ds cells output allowance run =
     (e : End) → ((run ≡ e) × So (endOfText (e .outcome))) ↔ Affords T text ds cells output allowance e
