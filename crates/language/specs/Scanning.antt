@@ -166,13 +166,13 @@ abbrev pub ownCall : State → Bool
 ownCall s = ltb (callsBelow (s .bodies)) (length (s .calls))
 
 module _ (L : Limits) where
-  -- "4: the charge would exceed the cells lent": n cells more are charged. "Most" is the highest charge allowed.
+  -- 4: "the charge would exceed the cells lent": n cells more are charged. "Most" is the highest charge allowed.
   abbrev pub charging : ℕ → State → (State → Step) → Step
   charging n s go =
       let r = go (noting (charge s + n) s) in
       cond (allows (L .cells) (charge s + n)) r (ends Outcomes.cellsExceeded s)
 
-  -- "5: the bytes of this scan would exceed the output lent"
+  -- 5: "the bytes of this scan would exceed the output lent"
   abbrev pub writing : Bytes → State → (State → Step) → Step
   writing bs s go =
       let r = go (withOutput (s .standing .output ++ bs) s) in
@@ -264,7 +264,7 @@ module _ (L : Limits) where
   byte fetches b s = fetch (s .bodies) b s
   byte unquotes b s = unquote (s .bodies) (s .calls) b s
 
-  -- "17: text ended inside quotes (before 18)"
+  -- 17: "text ended inside quotes (before 18)"
   abbrev pub textEnd : ℕ → List Call → State → Step
   textEnd (suc q) cs s = ends Outcomes.textEndedInQuotes s
   textEnd zero (c ∷ cs) s = ends Outcomes.textEndedInCall s
@@ -308,7 +308,7 @@ start t ds = record {
   standing = record { definitions = ds; output = []; read = 0; scans = 0; most = definitionsPrice ds };
 }
 
--- "3: a further scan is due and the allowance has been used"
+-- 3: "a further scan is due and the allowance has been used"
 abbrev pub endOf : Step → End
 endOf (stop e) = e
 endOf (next s) = record {

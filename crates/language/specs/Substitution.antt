@@ -309,7 +309,7 @@ module _ (T : Table) where
 abbrev pub start : List Definition → Handed
 start ds = record { definitions = ds; output = []; read = 0; scans = 0; charge = definitionsPrice ds; most = definitionsPrice ds }
 
--- "`deeper` is no end"
+-- Substitution: "deeper" is no end
 abbrev pub ended : Result → Option End
 ended (stretch r h) = some (endAt Outcomes.finished (h .handed))
 ended (finish e) = some e
