@@ -1,0 +1,257 @@
+-- A result in place of a list: VAL's value and the arithmetic's text.
+use Prim.Native.Nat.{ℕ, _+_, _-_, _≤_, _<_, max}
+use native.Mathlib.Omega.{arith}
+use mathlib.Core.Path.{_≡_, refl, sym, ap, subst, _∙_}
+use mathlib.Core.Bool.{Bool, true, false, cond, not}
+use mathlib.Core.List.{List, [], _∷_, _++_}
+use lib.ListN.{length, drop, getD, length-append, length-drop}
+use lib.Dec.{leb, ltb}
+use borrow.Author.Tests.{eq-eqb, ne-eqb, leb-true}
+use Rattle.language.specs.Signs.{Bytes}
+use Rattle.language.specs.Definitions.{Definition, oldest}
+use Rattle.language.specs.Charge.{definitionsPrice}
+use Rattle.language.specs.Scanning.{State, next, Call}
+use Rattle.language.specs.Scanning as S
+use Rattle.language.specs.Product.{lent}
+use Rattle.cells.specs.Block.{placed}
+use Rattle.expander.specs.declared.run.Run.{Run}
+use Rattle.expander.specs.Walks.{nowhere, packed, high, low}
+use Rattle.expander.specs.Machine as M
+use Rattle.expander.specs.Held.{Item, count}
+use Rattle.expander.proofs.Stack.{Places, address, items, places, calls, noCall}
+use Rattle.expander.proofs.Moves.{Collects, putHand}
+use Rattle.expander.proofs.Represents.{Represents, Simulates, goes, stops}
+use Rattle.expander.proofs.Putting.{roomTest, writes, collectsPlaced, overwrite, callBefore}
+use Rattle.expander.proofs.Applying.{Applied}
+use Rattle.expander.proofs.Calling.{rightTo, linksIs, outerCall, releaseIs, toAbove, underCells, leftDefinitions, freed, chargeIs}
+
+abbrev pub withMost : ℕ → Run → Run
+withMost m r = record {
+  read = r .read;
+  quotes = r .quotes;
+  left = r .left;
+  right = r .right;
+  call = r .call;
+  hand = r .hand;
+  list = r .list;
+  body = r .body;
+  offset = r .offset;
+  charge = r .charge;
+  most = m;
+  live = r .live;
+  scans = r .scans;
+  written = r .written;
+}
+
+abbrev pub mostly : ℕ → State → State
+mostly m s =
+    let w = s .standing in
+    S.withStanding (record { definitions = w .definitions; output = w .output; read = w .read; scans = w .scans; most = m }) s
+
+-- the most that was charged is a count of its own
+pub remost : {n : ℕ} {older : List Definition} {whole start : List ℕ} {r : Run} {l o : List ℕ} {s : State} (m : ℕ)
+    → Represents n older whole start r l o s → Represents n older whole start (withMost m r) l o (mostly m s)
+remost m h = record {
+  frames = h .frames;
+  valid = h .valid;
+  shows = record {
+    size = h .shows .size;
+    right = h .shows .right;
+    cells = h .shows .cells;
+    definitions = h .shows .definitions;
+    read = h .shows .read;
+    scans = h .shows .scans;
+    most = refl;
+    live = h .shows .live;
+    written = h .shows .written;
+    output = h .shows .output;
+    enough = h .shows .enough;
+  };
+  lent = h .lent;
+  ordered = h .ordered;
+  carried = h .carried;
+  placesAre = h .placesAre;
+  leftsAre = h .leftsAre;
+  callsAre = h .callsAre;
+  bodiesAre = h .bodiesAre;
+  ahead = h .ahead;
+  quotes = h .quotes;
+}
+
+module _ {n : ℕ} {older : List Definition} {whole start : List ℕ} {r : Run} {l o : List ℕ} {s : State}
+    (free : definitionsPrice older ≡ 0) (a : Applied n older whole start r l o s) where
+  abbrev b : ℕ
+  b = length older
+
+  abbrev U : List Item
+  U = items n b (a .under)
+
+  abbrev p : Places
+  p = places n b (a .under)
+
+  abbrev links : ℕ
+  links = packed (p .hand) (p .call)
+
+  -- an outcome with nothing changed
+  pub refused : (k : ℕ) → Simulates n older whole start (M.ends k r l o) (S.ends k s)
+  refused k = stops (record { outcome = refl; its = a .since ++ U; shows = a .shows })
+
+  -- the list gone and nothing in its place
+  pub gone : Represents n older whole start (M.released r 0 (address n U) links (count (a .since)) n) l o
+      (S.withCalls (calls n b (a .under)) (S.withDefinitions (oldest (b + count U) (s .standing .definitions)) s))
+  gone = freed a (a .under) l (oldest (b + count U) (s .standing .definitions)) (a .valid) refl refl refl refl (a .shows .size) refl refl (underCells a) (leftDefinitions a) refl
+
+  -- whether a call stands around the applied one
+  noneAround : calls n b (a .under) ≡ [] → M.isOuter r l ≡ true
+  noneAround e = eq-eqb _ _ (ap low (linksIs a) ∙ outerCall a ∙ noCall n b (a .under) e)
+
+  someAround : Collects n b (a .under) → M.isOuter r l ≡ false
+  someAround c =
+      let e : low (getD l (r .call + 2) 0) ≡ p .call = ap low (linksIs a) ∙ outerCall a in
+      let k : p .call < nowhere = omega (arith, callBefore n b (a .under) c, a .callIs, a .leftIs, a .room, a .shows .right, a .lent) in
+      ne-eqb (low (getD l (r .call + 2) 0)) nowhere (λ (z : low (getD l (r .call + 2) 0) ≡ nowhere). absurd (omega arith))
+
+  pub outputSize : length o ≡ length start
+  outputSize = ap length (a .shows .output) ∙ omega (arith, length-append (s .standing .output) (drop (length (s .standing .output)) start), length-drop (length (s .standing .output)) start, a .shows .enough)
+
+  -- the standing with the list gone and so much collected
+  abbrev placedAt : ℕ → ℕ → ℕ → Run
+  placedAt left charge m = record {
+    read = r .read;
+    quotes = r .quotes;
+    left = left;
+    right = address n U;
+    call = low links;
+    hand = high links;
+    list = r .list;
+    body = r .body;
+    offset = r .offset;
+    charge = charge;
+    most = m;
+    live = r .live - count (a .since);
+    scans = r .scans;
+    written = r .written;
+  }
+
+  -- a result collected by the call around
+  givenIn : (bs : Bytes) (X : List ℕ) → Collects n b (a .under) → (r .charge + length bs ≤ n → X ≡ placed (r .call) bs l)
+      → Simulates n older whole start
+      (cond (ltb (length l - r .charge) (length bs)) (M.ends 4 r l o)
+      (record { run = (M.release (M.charged (length bs) r) (length bs) l o) .run; outcome = (M.release (M.charged (length bs) r) (length bs) l o) .outcome; cells = X; output = o }))
+      (cond (leb (S.charge s + (1 + length bs)) n)
+      (next (S.withCalls (putHand bs (calls n b (a .under))) (S.withDefinitions (oldest (b + count U) (s .standing .definitions)) (S.noting (S.charge s + (1 + length bs)) s))))
+      (S.ends 4 s))
+  givenIn bs X c is = go (leb (r .charge + length bs) n) refl
+    where
+      below : r .charge ≤ n
+      below = omega (arith, a .carried, a .room, a .shows .right)
+
+      chargeEq : S.charge s + (1 + length bs) ≡ r .charge + length bs
+      chargeEq = omega (arith, chargeIs a free)
+
+      test : ltb (length l - r .charge) (length bs) ≡ not (leb (r .charge + length bs) n)
+      test = ap (λ (k : ℕ). ltb (k - r .charge) (length bs)) (a .shows .size) ∙ roomTest n (r .charge) (length bs) below
+
+      m : ℕ
+      m = max (r .most) (r .charge + length bs)
+
+      mostEq : m ≡ max (s .standing .most) (S.charge s + (1 + length bs))
+      mostEq = ap (λ (k : ℕ). max k (r .charge + length bs)) (a .shows .most) ∙ ap (max (s .standing .most)) (sym chargeEq)
+
+      target : State
+      target = S.withCalls (putHand bs (calls n b (a .under))) (S.withDefinitions (oldest (b + count U) (s .standing .definitions)) s)
+
+      rep : r .charge + length bs ≤ n → Represents n older whole start (M.released (M.charged (length bs) r) (length bs) (address n U) links (count (a .since)) n) X o (mostly (max (s .standing .most) (S.charge s + (1 + length bs))) target)
+      rep e =
+          let t = toAbove a in
+          let t₂ = rightTo a in
+          let fit : r .call + 0 + (n - address n U) + length bs ≤ n = omega (arith, a .carried, a .leftIs, a .room, a .shows .right) in
+          let c₂ : Collects n b (gone .frames) = subst (λ (k : List Call). 0 < length k) (gone .callsAre) c in
+          let h = remost m (collectsPlaced free gone bs c₂ fit) in
+          let z : r .call + 0 ≡ r .call = omega arith in
+          let leftEq : r .call + 0 + length bs ≡ r .call + length bs = omega arith in
+          let chargeEq₂ : r .call + 0 + (n - address n U) + length bs ≡ r .call + length bs + (n - address n U) = omega arith in
+          let cellsEq : placed (r .call + 0) bs l ≡ X = ap (λ (k : ℕ). placed k bs l) z ∙ sym (is e) in
+          let h₂ = subst (λ (k : List ℕ). Represents n older whole start (withMost m (M.collected (length bs) (M.released r 0 (address n U) links (count (a .since)) n))) k o (mostly m target)) cellsEq h in
+          let h₃ = subst (λ (k : ℕ). Represents n older whole start (placedAt k (r .call + 0 + (n - address n U) + length bs) m) X o (mostly m target)) leftEq h₂ in
+          let h₄ = subst (λ (k : ℕ). Represents n older whole start (placedAt (r .call + length bs) k m) X o (mostly m target)) chargeEq₂ h₃ in
+          subst (λ (k : ℕ). Represents n older whole start (placedAt (r .call + length bs) (r .call + length bs + (n - address n U)) m) X o (mostly k target)) mostEq h₄
+
+      go : (t : Bool) → leb (r .charge + length bs) n ≡ t
+          → Simulates n older whole start
+          (cond (ltb (length l - r .charge) (length bs)) (M.ends 4 r l o)
+          (record { run = (M.release (M.charged (length bs) r) (length bs) l o) .run; outcome = (M.release (M.charged (length bs) r) (length bs) l o) .outcome; cells = X; output = o }))
+          (cond (leb (S.charge s + (1 + length bs)) n)
+          (next (S.withCalls (putHand bs (calls n b (a .under))) (S.withDefinitions (oldest (b + count U) (s .standing .definitions)) (S.noting (S.charge s + (1 + length bs)) s))))
+          (S.ends 4 s))
+      go true e =
+          let q = leb-true (r .charge + length bs) n e in
+          let t = rightTo a in
+          let released = releaseIs a (M.charged (length bs) r) (length bs) o refl refl refl (omega (arith, a .carried, a .leftIs, a .room, a .shows .right)) in
+          let test₂ : leb (S.charge s + (1 + length bs)) n ≡ true = ap (λ (k : ℕ). leb k n) chargeEq ∙ e in
+          rw (test ∙ ap not e, test₂, released) (goes refl (rep q))
+      go false e =
+          let test₂ : leb (S.charge s + (1 + length bs)) n ≡ false = ap (λ (k : ℕ). leb k n) chargeEq ∙ e in
+          rw (test ∙ ap not e, test₂) (refused 4)
+
+  -- a result that goes to the output
+  givenOut : (bs : Bytes) (O : List ℕ) → calls n b (a .under) ≡ [] → (length (s .standing .output) + length bs ≤ length start → O ≡ placed (r .written) bs o)
+      → Simulates n older whole start
+      (cond (ltb (length o - r .written) (length bs)) (M.ends 5 r l o) (M.release (M.wrote (length bs) r) 0 l O))
+      (cond (leb (length (s .standing .output) + length bs) (length start))
+      (next (S.withCalls [] (S.withDefinitions (oldest (b + count U) (s .standing .definitions)) (S.withOutput (s .standing .output ++ bs) s))))
+      (S.ends 5 s))
+  givenOut bs O none is = go (leb (length (s .standing .output) + length bs) (length start)) refl
+    where
+      test : ltb (length o - r .written) (length bs) ≡ not (leb (length (s .standing .output) + length bs) (length start))
+      test =
+          ap (λ (k : ℕ). ltb (k - r .written) (length bs)) outputSize
+          ∙ ap (λ (k : ℕ). ltb (length start - k) (length bs)) (a .shows .written)
+          ∙ roomTest (length start) (length (s .standing .output)) (length bs) (a .shows .enough)
+
+      go : (t : Bool) → leb (length (s .standing .output) + length bs) (length start) ≡ t
+          → Simulates n older whole start
+          (cond (ltb (length o - r .written) (length bs)) (M.ends 5 r l o) (M.release (M.wrote (length bs) r) 0 l O))
+          (cond t (next (S.withCalls [] (S.withDefinitions (oldest (b + count U) (s .standing .definitions)) (S.withOutput (s .standing .output ++ bs) s)))) (S.ends 5 s))
+      go true e =
+          let q = leb-true (length (s .standing .output) + length bs) (length start) e in
+          let t = toAbove a in
+          let released = releaseIs a (M.wrote (length bs) r) 0 O refl refl refl (omega (arith, a .leftIs)) in
+          let outEq : (s .standing .output ++ bs) ++ drop (length (s .standing .output ++ bs)) start ≡ O =
+          sym (is q ∙ ap (λ (k : ℕ). placed k bs o) (a .shows .written) ∙ ap (placed (length (s .standing .output)) bs) (a .shows .output) ∙ overwrite (s .standing .output) start bs q) in
+          let h = subst (λ (k : List Call). Represents n older whole start (M.wrote (length bs) (M.released r 0 (address n U) links (count (a .since)) n)) l ((s .standing .output ++ bs) ++ drop (length (s .standing .output ++ bs)) start)
+          (S.withOutput (s .standing .output ++ bs) (S.withCalls k (S.withDefinitions (oldest (b + count U) (s .standing .definitions)) s)))) none (writes free gone bs q) in
+          rw (test ∙ ap not e, released)
+          (goes refl (subst (λ (k : List ℕ). Represents n older whole start (M.wrote (length bs) (M.released r 0 (address n U) links (count (a .since)) n)) l k
+          (S.withOutput (s .standing .output ++ bs) (S.withCalls [] (S.withDefinitions (oldest (b + count U) (s .standing .definitions)) s)))) outEq h))
+      go false e = rw (test ∙ ap not e) (refused 5)
+
+  -- by whether a call stands around
+  pub giveSim : (bs : Bytes) (X O : List ℕ) → (r .charge + length bs ≤ n → X ≡ placed (r .call) bs l)
+      → (length (s .standing .output) + length bs ≤ length start → O ≡ placed (r .written) bs o)
+      → Simulates n older whole start
+      (cond (M.isOuter r l)
+      (cond (ltb (length o - r .written) (length bs)) (M.ends 5 r l o) (M.release (M.wrote (length bs) r) 0 l O))
+      (cond (ltb (length l - r .charge) (length bs)) (M.ends 4 r l o)
+      (record { run = (M.release (M.charged (length bs) r) (length bs) l o) .run; outcome = (M.release (M.charged (length bs) r) (length bs) l o) .outcome; cells = X; output = o })))
+      (S.give (lent n (length start)) (calls n b (a .under)) (record { ended = a .ended; hand = a .hand; stood = b + count U }) bs s)
+  giveSim bs X O x y = go (calls n b (a .under)) refl
+    where
+      go : (cs : List Call) → calls n b (a .under) ≡ cs
+          → Simulates n older whole start
+          (cond (M.isOuter r l)
+          (cond (ltb (length o - r .written) (length bs)) (M.ends 5 r l o) (M.release (M.wrote (length bs) r) 0 l O))
+          (cond (ltb (length l - r .charge) (length bs)) (M.ends 4 r l o)
+          (record { run = (M.release (M.charged (length bs) r) (length bs) l o) .run; outcome = (M.release (M.charged (length bs) r) (length bs) l o) .outcome; cells = X; output = o })))
+          (S.give (lent n (length start)) cs (record { ended = a .ended; hand = a .hand; stood = b + count U }) bs s)
+      go [] e = rw (noneAround e) (givenOut bs O e y)
+      go (k ∷ cs) e =
+          let c : Collects n b (a .under) = rw e (omega arith) in
+          rw (someAround c)
+          (subst (λ (z : List Call). Simulates n older whole start
+          (cond (ltb (length l - r .charge) (length bs)) (M.ends 4 r l o)
+          (record { run = (M.release (M.charged (length bs) r) (length bs) l o) .run; outcome = (M.release (M.charged (length bs) r) (length bs) l o) .outcome; cells = X; output = o }))
+          (cond (leb (S.charge s + (1 + length bs)) n)
+          (next (S.withCalls (putHand bs z) (S.withDefinitions (oldest (b + count U) (s .standing .definitions)) (S.noting (S.charge s + (1 + length bs)) s))))
+          (S.ends 4 s)))
+          e (givenIn bs X c x))

@@ -1,0 +1,27 @@
+-- A refusal is the outcome, and a number is given as text.
+use borrow.Author.Tests.{eq-eqb, ne-eqb}
+use borrow.Author.Needs.{needs}
+use Rattle.expander.proofs.run.Run.give_answer.Statement.{statement}
+use Rattle.expander.proofs.run.Run.give_answer.Tie as tie
+
+returns : tie.Need-returns
+returns c = rw (ne-eqb _ _ (c .if1 .taken))
+
+give-text-requires : tie.Need-give-text-requires
+give-text-requires c κs = search needs
+
+same-length : tie.Need-same-length
+same-length c = search needs
+
+same-length-2 : tie.Need-same-length-2
+same-length-2 c = search needs
+
+returns-2 : tie.Need-returns-2
+returns-2 c =
+    let b = c .before .before .before .before in
+    let b₁ = b .before .before .before .before .before .before in
+    rw (eq-eqb _ _ (b₁ .if1 .left), b .give-text .ensures)
+
+pub give-answer-spec : {M : Type 1} → statement M
+give-answer-spec =
+    tie.close (tie.spec returns give-text-requires same-length same-length-2 returns-2)

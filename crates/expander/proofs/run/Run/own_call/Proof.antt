@@ -1,0 +1,23 @@
+-- With no open call there is none, else its list cell is compared.
+use borrow.Author.Tests.{eq-eqb, ne-eqb}
+use borrow.Author.Needs.{needs}
+use Rattle.expander.proofs.run.Run.own_call.Statement.{statement}
+use Rattle.expander.proofs.run.Run.own_call.Tie as tie
+
+returns : tie.Need-returns
+returns c = rw (eq-eqb _ _ (c .if1 .taken))
+
+add-read : tie.Need-add-read
+add-read c = search needs
+
+read-requires : tie.Need-read-requires
+read-requires c κs = search needs
+
+cast-list : tie.Need-cast-list
+cast-list c = search needs
+
+returns-2 : tie.Need-returns-2
+returns-2 c = rw (ne-eqb _ _ (c .before .before .if1 .left), c .before .read .ensures)
+
+pub own-call-spec : {M : Type 1} → statement M
+own-call-spec = tie.close (tie.spec returns add-read read-requires cast-list returns-2)

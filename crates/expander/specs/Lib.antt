@@ -1,0 +1,4 @@
+pub mod Walks
+pub mod Machine
+pub mod Held
+pub mod Reports

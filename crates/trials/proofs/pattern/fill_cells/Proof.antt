@@ -1,0 +1,56 @@
+-- `trials::pattern::fill_cells` is safe and ends. The cells keep their number; the measure is how many are left.
+use Prim.Native.Nat.{_-_}
+use mathlib.Core.Path.{_≡_}
+use lib.ListN.{length}
+use borrow.Author.Needs.{needs}
+use Rattle.trials.proofs.pattern.fill_cells.Statement.{statement}
+use Rattle.trials.proofs.pattern.fill_cells.Tie as tie
+
+abbrev Inv-loop : tie.InvT-loop
+Inv-loop cells₀ at₀ cells at = length cells ≡ length cells₀
+
+abbrev μ-loop : tie.MeasureT-loop
+μ-loop cells₀ at₀ cells at = length cells₀ - at
+
+loop-holds : tie.Need-loop-holds Inv-loop μ-loop
+loop-holds c = search needs
+
+cell-at-requires : tie.Need-cell-at-requires Inv-loop μ-loop
+cell-at-requires c κs = search needs
+
+mul-cells : tie.Need-mul-cells Inv-loop μ-loop
+mul-cells c = search needs
+
+slice-write-cells : tie.Need-slice-write-cells Inv-loop μ-loop
+slice-write-cells c = search needs
+
+add-at : tie.Need-add-at Inv-loop μ-loop
+add-at c = search needs
+
+loop-less : tie.Need-loop-less Inv-loop μ-loop
+loop-less c = search needs
+
+loop-again : tie.Need-loop-again Inv-loop μ-loop
+loop-again c = search needs
+
+same-length : tie.Need-same-length Inv-loop μ-loop
+same-length c = search needs
+
+returns : tie.Need-returns Inv-loop μ-loop
+returns c = search needs
+
+pub fill-cells-spec : {M : Type 1} → statement M
+fill-cells-spec =
+    tie.close
+    (tie.spec
+    Inv-loop
+    μ-loop
+    loop-holds
+    cell-at-requires
+    mul-cells
+    slice-write-cells
+    add-at
+    loop-less
+    loop-again
+    same-length
+    returns)

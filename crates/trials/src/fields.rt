@@ -1,0 +1,94 @@
+// Lines, fields between tabs, and decimal numbers.
+ghost use Prim.Native.Nat.{_<_, _≤_};
+ghost use lib.ListN.{length};
+
+// What `number` gives for a field that is none.
+const NONE: u32 = u32::MAX;
+
+// The position of the first such byte, or the length where there is none.
+fn find(text: &[u8], byte: u8) -> usize
+    ensures { λ r. ⌜ r ≤ length (now (text .entry)) ⌝ }
+{
+    let mut at = 0;
+    while at < text.len() {
+        if text[at] == byte {
+            return at;
+        }
+        at += 1;
+    }
+    at
+}
+
+// What stands before the first such byte, or all.
+pub(crate) fn up_to(text: &[u8], byte: u8) -> &[u8] {
+    let end = find(text, byte);
+    &text[0..end]
+}
+
+// The position behind the first such byte from a position on, or the length where there is none.
+pub(crate) fn behind(text: &[u8], from: usize, byte: u8) -> usize
+    ensures { λ r. ⌜ (r ≤ length (now (text .entry))) × (from < length (now (text .entry)) → from < r) ⌝ }
+{
+    if from >= text.len() {
+        return text.len();
+    }
+    let found = find(&text[from..], byte);
+    if found >= text.len() - from {
+        return text.len();
+    }
+    from + found + 1
+}
+
+// Where the field with this number starts, counted from 0.
+fn start_of(row: &[u8], number: usize) -> usize
+    ensures { λ r. ⌜ r ≤ length (now (row .entry)) ⌝ }
+{
+    let mut at = 0;
+    let mut left = number;
+    while left > 0 {
+        at = behind(row, at, b'\t');
+        left -= 1;
+    }
+    at
+}
+
+pub(crate) fn field(row: &[u8], number: usize) -> &[u8] {
+    let at = start_of(row, number);
+    up_to(&row[at..], b'\t')
+}
+
+pub(crate) fn number(row: &[u8], number: usize) -> u32 {
+    value(field(row, number))
+}
+
+// The value of decimal digits, of which there are few enough.
+fn value(digits: &[u8]) -> u32 {
+    if digits.len() == 0 {
+        return NONE;
+    }
+    let mut value = 0;
+    let mut at = 0;
+    while at < digits.len() {
+        let digit = digit(digits[at]);
+        if digit > 9 {
+            return NONE;
+        }
+        if value >= 100000000 {
+            return NONE;
+        }
+        value = value * 10 + digit;
+        at += 1;
+    }
+    value
+}
+
+// The value of a digit, and 10 for any other byte.
+fn digit(byte: u8) -> u32 {
+    if byte < b'0' {
+        return 10;
+    }
+    if byte > b'9' {
+        return 10;
+    }
+    (byte - b'0') as u32
+}

@@ -1,0 +1,117 @@
+// A trial of the expander: it is lent parts of larger arrays that hold a pattern, and all of them are looked at afterwards.
+use crate::pattern;
+use expander::Report;
+use language::Sizes;
+
+// How many elements lie in front of a lent part and, at least, behind it.
+const MARGIN: usize = 32;
+
+// The most that a trial lends: one more than the expander takes.
+const MOST: usize = Sizes::TEXT_LIMIT + 1;
+
+const ROOM: usize = MOST + 2 * MARGIN;
+
+// What a trial lends.
+pub(crate) struct Lent {
+    pub(crate) cells: usize,
+    pub(crate) output: usize,
+    pub(crate) allowance: u64,
+}
+
+// Whether a run gives this report and this output, and leaves all lent memory and what lies around it as it should.
+pub(crate) fn is_right(text: &[u8], lent: Lent, report: Report, output: &[u8]) -> bool {
+    let mut cells = [0u32; ROOM];
+    let mut bytes = [0u8; ROOM];
+    let got = run(text, lent, &mut cells, &mut bytes);
+    if !is_same(got, report) {
+        return false;
+    }
+    if report.written != output.len() {
+        return false;
+    }
+    if !output_is_right(&bytes, output) {
+        return false;
+    }
+    cells_are_right(&cells, lent.cells, report.outcome)
+}
+
+// Fills the arrays with the pattern and runs the text on parts of them.
+fn run(text: &[u8], lent: Lent, cells: &mut [u32], bytes: &mut [u8]) -> Report {
+    pattern::fill_cells(cells);
+    pattern::fill_bytes(bytes);
+    if lent.cells > MOST {
+        return nothing();
+    }
+    if lent.output > MOST {
+        return nothing();
+    }
+    let cells_end = MARGIN + lent.cells;
+    let bytes_end = MARGIN + lent.output;
+    if cells_end > cells.len() || bytes_end > bytes.len() {
+        return nothing();
+    }
+    expander::expand(
+        text,
+        &mut cells[MARGIN..cells_end],
+        &mut bytes[MARGIN..bytes_end],
+        lent.allowance,
+    )
+}
+
+// A report that no run gives, for what cannot be lent.
+fn nothing() -> Report {
+    Report {
+        outcome: u32::MAX,
+        read: 0,
+        written: 0,
+        scans: 0,
+        most: 0,
+        live: 0,
+    }
+}
+
+fn is_same(a: Report, b: Report) -> bool {
+    if a.outcome != b.outcome || a.read != b.read {
+        return false;
+    }
+    if a.written != b.written || a.scans != b.scans {
+        return false;
+    }
+    a.most == b.most && a.live == b.live
+}
+
+// Whether the output stands at the start of the lent part and all else is as before.
+fn output_is_right(bytes: &[u8], output: &[u8]) -> bool {
+    if bytes.len() < MARGIN {
+        return false;
+    }
+    if output.len() > bytes.len() - MARGIN {
+        return false;
+    }
+    let end = MARGIN + output.len();
+    if !check::same(&bytes[MARGIN..end], output) {
+        return false;
+    }
+    if !pattern::has_bytes(bytes, 0, MARGIN) {
+        return false;
+    }
+    pattern::has_bytes(bytes, end, bytes.len())
+}
+
+// Whether the lent cells are zero, or as before with outcome 2, and all others as before.
+fn cells_are_right(cells: &[u32], lent: usize, outcome: u32) -> bool {
+    if outcome == 2 {
+        return pattern::has_cells(cells, 0, cells.len());
+    }
+    if lent > MOST {
+        return false;
+    }
+    let end = MARGIN + lent;
+    if !pattern::has_cells(cells, 0, MARGIN) {
+        return false;
+    }
+    if !pattern::has_zeros(cells, MARGIN, end) {
+        return false;
+    }
+    pattern::has_cells(cells, end, cells.len())
+}
