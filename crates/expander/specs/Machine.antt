@@ -584,6 +584,18 @@ scanSign r kind b l o =
 abbrev pub scanByte : Run → ℕ → ℕ → List ℕ → List ℕ → After
 scanByte r kind b l o = cond (ltb 0 (r .quotes)) (scanQuoted r kind b l o) (scanSign r kind b l o)
 
+-- the next byte of the innermost body, else of the text, or nowhere at its end; the standing behind it; and that end
+abbrev pub nextByte : Run → List ℕ → List ℕ → ℕ
+nextByte r text l =
+    cond (eqb (r .list) nowhere) (cond (leb (length text) (r .read)) nowhere (getD text (r .read) 0)) (bodyByte r l)
+
+abbrev pub passed : Run → Run
+passed r = cond (eqb (r .list) nowhere) (withRead (r .read + 1) r) (withOffset (r .offset + 1) r)
+
+abbrev pub endSource : Run → List ℕ → List ℕ → After
+endSource r l o = cond (eqb (r .list) nowhere) (endText r l o) (endBody r l o)
+
+-- one scan by its source, as the scanning of crate language has it
 abbrev pub scanText : Run → List ℕ → List ℕ → List ℕ → List ℕ → After
 scanText r kinds text l o =
     let b = getD text (r .read) 0 in

@@ -4,7 +4,9 @@ use crate::run::Stepped;
 ghost use mathlib.Core.Path.{_≡_};
 ghost use Prim.Native.Nat.{ℕ, _+_, _≤_, _<_};
 ghost use lib.ListN.{length, getD};
-ghost use Rattle.expander.specs.Machine.{Sound, Ready, leaves, withQuotes, quotesAfter, scanQuoted, scanSign, scanByte, scanText, scanBody, step};
+ghost use mathlib.Core.List.{List};
+ghost use Rattle.expander.specs.Walks.{nowhere};
+ghost use Rattle.expander.specs.Machine.{Sound, Ready, leaves, withQuotes, quotesAfter, scanQuoted, scanSign, scanByte, nextByte, passed, endSource, step};
 
 impl Run {
     // One scan takes the standing of the run and gives the next.
@@ -20,44 +22,53 @@ impl Run {
     {
         let mut run = self;
         run.scans = self.scans + 1;
-        if self.list == Run::NOWHERE {
-            return run.scan_text(kinds, text, cells, output);
-        }
-        run.scan_body(kinds, cells, output)
-    }
-
-    fn scan_text(
-        self,
-        kinds: &[u8; 256],
-        text: &[u8],
-        cells: &mut [u32],
-        output: &mut [u8],
-    ) -> Stepped
-        requires { ⌜ (Sound (length (now cells)) self) × (self .written ≤ length (now output)) ⌝ }
-        ensures { λ r. ⌜ leaves r (now (cells .exit)) (now (output .exit)) ≡ scanText self (now (kinds .entry)) (now (text .entry)) (now (cells .entry)) (now (output .entry)) ⌝ }
-    {
-        let at = self.read;
-        if at >= text.len() {
-            return self.end_text();
-        }
-        let byte = text[at];
-        let mut run = self;
-        run.read = at + 1;
-        run.scan_byte(kind(kinds, byte), byte, cells, output)
-    }
-
-    fn scan_body(self, kinds: &[u8; 256], cells: &mut [u32], output: &mut [u8]) -> Stepped
-        requires { ⌜ (Sound (length (now cells)) self) × (self .written ≤ length (now output)) ⌝ }
-        ensures { λ r. ⌜ leaves r (now (cells .exit)) (now (output .exit)) ≡ scanBody self (now (kinds .entry)) (now (cells .entry)) (now (output .entry)) ⌝ }
-    {
-        let next = self.body_byte(cells);
+        let next = run.next_byte(text, cells);
         if next == Run::NOWHERE {
-            return self.end_body(cells);
+            return run.end_source(cells);
         }
         let byte = (next % 256) as u8;
+        run.passed()
+            .scan_byte(kind(kinds, byte), byte, cells, output)
+    }
+
+    // The next byte of the innermost body, else of the text, or NOWHERE at its end.
+    fn next_byte(self, text: &[u8], cells: &[u32]) -> usize
+        requires { ⌜ (self .body ≤ 65535) × (self .offset ≤ 4294967296) ⌝ }
+        ensures { λ r. ⌜ r ≡ nextByte self (now (text .entry)) (now (cells .entry)) ⌝ }
+    {
+        if self.list != Run::NOWHERE {
+            return self.body_byte(cells);
+        }
+        let at = self.read;
+        if at >= text.len() {
+            return Run::NOWHERE;
+        }
+        text[at] as usize
+    }
+
+    // The standing behind that byte.
+    fn passed(self) -> Run
+        requires { ⌜ (self .list ≡ nowhere → self .read < 18446744073709551615) × (self .offset ≤ 4294967296) ⌝ }
+        ensures { λ r. ⌜ r ≡ passed self ⌝ }
+    {
         let mut run = self;
+        if self.list == Run::NOWHERE {
+            run.read = self.read + 1;
+            return run;
+        }
         run.offset = self.offset + 1;
-        run.scan_byte(kind(kinds, byte), byte, cells, output)
+        run
+    }
+
+    // The end of the innermost body, else of the text.
+    fn end_source(self, cells: &mut [u32]) -> Stepped
+        requires { ⌜ Sound (length (now cells)) self ⌝ }
+        ensures { λ r. ⌜ ((o : List ℕ) → leaves r (now (cells .exit)) o ≡ endSource self (now (cells .entry)) o) ⌝ }
+    {
+        if self.list == Run::NOWHERE {
+            return self.end_text();
+        }
+        self.end_body(cells)
     }
 
     // Inside quotes only quotes are recognised.

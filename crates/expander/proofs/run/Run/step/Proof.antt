@@ -1,51 +1,87 @@
--- The counted scan is one of the text or one of a body.
-use mathlib.Core.Path.{_∙_}
+-- The counted scan is the end of its source, or it is that of the next byte behind which the run then stands.
+use mathlib.Core.Path.{_∙_, sym}
+use native.Mathlib.Omega.{arith}
 use borrow.Author.Needs.{needs}
-use Rattle.expander.proofs.Scans.{in-text, in-body}
+use lib.ListN.{length}
+use Rattle.expander.specs.Machine.{Sound, scanned}
+use Rattle.expander.proofs.Scans.{at-end, before, before-end, passed-sound, passed-written}
 use Rattle.expander.proofs.run.Run.step.Statement.{statement}
 use Rattle.expander.proofs.run.Run.step.Tie as tie
 
 add-run : tie.Need-add-run
 add-run c = search needs
 
-scan-text-requires : tie.Need-scan-text-requires
-scan-text-requires c κs = search needs
+next-byte-requires : tie.Need-next-byte-requires
+next-byte-requires c κs = search needs
+
+end-source-requires : tie.Need-end-source-requires
+end-source-requires c κs = search needs
 
 same-length : tie.Need-same-length
 same-length c = search needs
 
-same-length-2 : tie.Need-same-length-2
-same-length-2 c = search needs
-
 returns : tie.Need-returns
 returns c =
-    let b = c .before .before .before .before in
-    b .scan-text .ensures ∙ in-text _ _ _ _ _ (b .before .before .before .if1 .taken)
+    let b = c .before .before in
+    let t = b .before .before in
+    let k = t .before .before .before .before .before .before in
+    let a = k .before .args in
+    b .end-source .ensures _
+    ∙ at-end (a .self) (a .kinds .now) (a .text .now) (a .cells .now) (a .output .now) (λ i. k .shared-slice-known .given i .fits)
+    (sym (t .before .next-byte .ensures) ∙ t .if1 .taken)
 
-scan-body-requires : tie.Need-scan-body-requires
-scan-body-requires c κs = search needs
+cast-byte : tie.Need-cast-byte
+cast-byte c = search needs
+
+passed-requires : tie.Need-passed-requires
+passed-requires c κs =
+    let a = c .before .before .before .before .before .before .before .args in
+    (λ q. omega (arith, before-end (scanned (a .self)) (a .text .now) (a .cells .now) (c .before .next-byte .ensures) (c .if1 .left) q), search needs)
+
+kind-requires : tie.Need-kind-requires
+kind-requires c κs = search needs
+
+scan-byte-requires : tie.Need-scan-byte-requires
+scan-byte-requires c κs =
+    let p = c .before .before .before in
+    let e = p .before in
+    let k = e .before .before .before .before .before in
+    let a = k .before .before .args in
+    let s : Sound (length (a .cells .now)) (scanned (a .self)) = search needs in (
+      rw (p .passed .ensures) (passed-sound (scanned (a .self)) (a .text .now) (a .cells .now) (e .before .next-byte .ensures) (e .if1 .left) (λ i. k .slice-known .given i .fits) s),
+      rw (p .passed .ensures, passed-written (scanned (a .self))) (search needs),
+    )
+
+same-length-2 : tie.Need-same-length-2
+same-length-2 c = search needs
 
 same-length-3 : tie.Need-same-length-3
 same-length-3 c = search needs
 
-same-length-4 : tie.Need-same-length-4
-same-length-4 c = search needs
-
 returns-2 : tie.Need-returns-2
 returns-2 c =
     let b = c .before .before .before .before in
-    b .scan-body .ensures ∙ in-body _ _ _ _ _ (b .before .before .before .if1 .left)
+    let k = b .before .before .before in
+    let e = k .before .before in
+    let h = e .before .before .before .before .before .before in
+    let a = h .before .args in
+    b .scan-byte .ensures
+    ∙ rw (k .before .passed .ensures)
+    (before (a .self) (a .kinds .now) (a .text .now) (a .cells .now) (a .output .now) (λ i. h .shared-slice-known .given i .fits) (e .before .next-byte .ensures) (e .if1 .left) (k .kind .ensures))
 
 pub step-spec : {M : Type 1} → statement M
 step-spec =
     tie.close
     (tie.spec
     add-run
-    scan-text-requires
+    next-byte-requires
+    end-source-requires
     same-length
-    same-length-2
     returns
-    scan-body-requires
+    cast-byte
+    passed-requires
+    kind-requires
+    scan-byte-requires
+    same-length-2
     same-length-3
-    same-length-4
     returns-2)
