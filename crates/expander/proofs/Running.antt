@@ -24,6 +24,7 @@ use Rattle.expander.specs.declared.run.Run.{Run}
 use Rattle.expander.specs.Machine as M
 use Rattle.expander.specs.Machine.{After}
 use Rattle.expander.specs.Held.{Item, defined, listed, encode, width, definitionsOf, count, Ended}
+use Rattle.expander.specs.Reports.{Expanded}
 use Rattle.expander.proofs.Items.{definition-size, width-cons, count-append}
 use Rattle.expander.proofs.Stack.{Places, Frame, made, collects, reads, address, At, here, there, listItem, laid, items, places, lefts, calls, bodies, Valid}
 use Rattle.expander.proofs.Represents.{Represents, Simulates, goes, stops}
@@ -273,5 +274,5 @@ cellsFit text cells output fits = go (ltb 65536 (length text)) (ltb 65536 (lengt
 
 -- the product and demand 3 of it
 pub delivers : (T : Table) (allowance : ℕ) (text cells output : List ℕ) (x : Left) → x ≡ product T allowance text cells output
-    → (x ≡ product T allowance text cells output) × Substitutes T allowance text cells output x
+    → Expanded T allowance text cells output x
 delivers T allowance text cells output x e = (e, subst (Substitutes T allowance text cells output) (sym e) (substitutes T allowance text cells output))

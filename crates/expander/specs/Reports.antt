@@ -1,7 +1,10 @@
 -- What a caller sees of a run.
 use Prim.Native.Nat.{ℕ}
+use mathlib.Core.Path.{_≡_}
 use mathlib.Core.List.{List}
-use Rattle.language.specs.Product.{Left}
+use Rattle.language.specs.Signs.{Table}
+use Rattle.language.specs.Product.{Left, product}
+use Rattle.language.specs.Demand.{Substitutes}
 use Rattle.expander.specs.declared.Report.{Report}
 
 -- the report, and the final content of the output and the cells
@@ -11,3 +14,7 @@ left r cells output = record {
   output = output;
   cells = cells;
 }
+
+-- What a whole run leaves, by both definitions: by scanning it is the run of document 01; by substitution demand 3 holds of it.
+abbrev pub Expanded : Table → ℕ → List ℕ → List ℕ → List ℕ → Left → Type 0
+Expanded T allowance text cells output end = (end ≡ product T allowance text cells output) × Substitutes T allowance text cells output end

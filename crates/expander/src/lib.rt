@@ -12,32 +12,30 @@ mod signs;
 
 use run::Run;
 use run::Stepped;
-ghost use mathlib.Core.Path.{_≡_};
 ghost use Prim.Native.Nat.{_≤_};
 ghost use lib.ListN.{length};
 ghost use Rattle.language.specs.Signs.{standard};
 ghost use Rattle.language.specs.BuiltIns.{builtIns};
-ghost use Rattle.language.specs.Product.{product, ending};
-ghost use Rattle.language.specs.Demand.{Substitutes};
+ghost use Rattle.language.specs.Product.{ending};
 ghost use Rattle.expander.specs.Machine.{leaves};
 ghost use Rattle.expander.specs.Held.{Ended};
-ghost use Rattle.expander.specs.Reports.{left};
+ghost use Rattle.expander.specs.Reports.{left, Expanded};
 
-// What a run reports, in document 01's order.
+// What a run reports, in document 01's order: for Rattle and for C.
+#[repr(C)]
 pub struct Report {
-    pub outcome: u32,
-    pub read: usize,
-    pub written: usize,
+    pub outcome: u64,
+    pub read: u64,
+    pub written: u64,
     pub scans: u64,
-    pub most: usize,
-    pub live: usize,
+    pub most: u64,
+    pub live: u64,
 }
 
 // A whole run over a text, in the cells, the output and the allowance of scans that are lent. By scanning: report, output and
 // cells are those of the run that document 01 defines. By substitution: demand 3 holds of them.
 pub fn expand(text: &[u8], cells: &mut [u32], output: &mut [u8], allowance: u64) -> Report
-    ensures { λ r. ⌜ (left r (now (cells .exit)) (now (output .exit)) ≡ product standard allowance (now (text .entry)) (now (cells .entry)) (now (output .entry)))
-        × Substitutes standard allowance (now (text .entry)) (now (cells .entry)) (now (output .entry)) (left r (now (cells .exit)) (now (output .exit))) ⌝ }
+    ensures { λ r. ⌜ Expanded standard allowance (now (text .entry)) (now (cells .entry)) (now (output .entry)) (left r (now (cells .exit)) (now (output .exit))) ⌝ }
 {
     let sizes = language::Sizes {
         text: text.len(),
@@ -59,13 +57,26 @@ pub fn expand(text: &[u8], cells: &mut [u32], output: &mut [u8], allowance: u64)
     cells::clear(cells);
     let run = st.run;
     Report {
-        outcome: st.outcome,
-        read: run.read,
-        written: run.written,
+        outcome: st.outcome as u64,
+        read: run.read as u64,
+        written: run.written as u64,
         scans: run.scans,
-        most: run.most,
-        live: run.live,
+        most: run.most as u64,
+        live: run.live as u64,
     }
+}
+
+// The same run for C callers: each slice is a pointer and a length, and the report is returned by value.
+#[no_mangle]
+pub extern "C" fn gpm_expand(
+    text: &[u8],
+    cells: &mut [u32],
+    output: &mut [u8],
+    allowance: u64,
+) -> Report
+    ensures { λ r. ⌜ Expanded standard allowance (now (text .entry)) (now (cells .entry)) (now (output .entry)) (left r (now (cells .exit)) (now (output .exit))) ⌝ }
+{
+    expand(text, cells, output, allowance)
 }
 
 // Scans until the run ends. The cells then hold the definitions that stand.

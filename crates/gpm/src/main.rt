@@ -68,7 +68,7 @@ fn run(text: &[u8]) {
     let report = expander::expand(text, &mut cells, &mut output, SCANS);
     write_report(report);
     if report.outcome <= 1 {
-        write_output(&output, report.written);
+        write_output(&output, report.written as usize);
     }
 }
 
@@ -95,12 +95,12 @@ fn put_report(line: &mut [u8], report: Report) -> usize
     ensures { λ r. ⌜ Counts r (now (line .exit)) ⌝ }
     ensures { λ r. ⌜ take r (now (line .exit)) ≡ reportLine (report .outcome) (report .read) (report .written) (report .scans) (report .most) (report .live) ⌝ }
 {
-    let mut len = put_number(line, 0, report.outcome as u64, b' ');
-    len = put_number(line, len, report.read as u64, b' ');
-    len = put_number(line, len, report.written as u64, b' ');
+    let mut len = put_number(line, 0, report.outcome, b' ');
+    len = put_number(line, len, report.read, b' ');
+    len = put_number(line, len, report.written, b' ');
     len = put_number(line, len, report.scans, b' ');
-    len = put_number(line, len, report.most as u64, b' ');
-    put_number(line, len, report.live as u64, b'\n')
+    len = put_number(line, len, report.most, b' ');
+    put_number(line, len, report.live, b'\n')
 }
 
 // A number and the byte behind it. The result is where the next one goes.

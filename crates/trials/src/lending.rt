@@ -26,7 +26,7 @@ pub(crate) fn is_right(text: &[u8], lent: Lent, report: Report, output: &[u8]) -
     if !is_same(got, report) {
         return false;
     }
-    if report.written != output.len() {
+    if report.written != output.len() as u64 {
         return false;
     }
     if !output_is_right(&bytes, output) {
@@ -61,7 +61,7 @@ fn run(text: &[u8], lent: Lent, cells: &mut [u32], bytes: &mut [u8]) -> Report {
 // A report that no run gives, for what cannot be lent.
 fn nothing() -> Report {
     Report {
-        outcome: u32::MAX,
+        outcome: u64::MAX,
         read: 0,
         written: 0,
         scans: 0,
@@ -99,7 +99,7 @@ fn output_is_right(bytes: &[u8], output: &[u8]) -> bool {
 }
 
 // Whether the lent cells are zero, or as before with outcome 2, and all others as before.
-fn cells_are_right(cells: &[u32], lent: usize, outcome: u32) -> bool {
+fn cells_are_right(cells: &[u32], lent: usize, outcome: u64) -> bool {
     if outcome == 2 {
         return pattern::has_cells(cells, 0, cells.len());
     }

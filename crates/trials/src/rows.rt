@@ -36,12 +36,12 @@ fn is_right(row: &[u8]) -> bool {
         allowance: fields::number(row, 3) as u64,
     };
     let report = Report {
-        outcome: fields::number(row, 5),
-        read: fields::number(row, 6) as usize,
-        written: fields::number(row, 7) as usize,
+        outcome: fields::number(row, 5) as u64,
+        read: fields::number(row, 6) as u64,
+        written: fields::number(row, 7) as u64,
         scans: fields::number(row, 8) as u64,
-        most: fields::number(row, 9) as usize,
-        live: fields::number(row, 10) as usize,
+        most: fields::number(row, 9) as u64,
+        live: fields::number(row, 10) as u64,
     };
     let script = fields::field(row, 4);
     let output = fields::field(row, 11);

@@ -35,7 +35,7 @@ fn size(number: usize) -> usize {
 // Whether the run of the first so many bytes on so many cells and so much output is right. One that is wrong is named.
 fn is_right(text: &[u8], len: usize, cells: usize, output: usize) -> bool {
     let report = expected(len, cells, output);
-    let written = report.written;
+    let written = report.written as usize;
     let lent = Lent {
         cells,
         output,
@@ -71,11 +71,11 @@ fn expected(len: usize, cells: usize, output: usize) -> Report {
     report(0, len, len, len as u64 + 1)
 }
 
-fn report(outcome: u32, read: usize, written: usize, scans: u64) -> Report {
+fn report(outcome: u64, read: usize, written: usize, scans: u64) -> Report {
     Report {
         outcome,
-        read,
-        written,
+        read: read as u64,
+        written: written as u64,
         scans,
         most: 0,
         live: 0,

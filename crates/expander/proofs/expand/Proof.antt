@@ -30,20 +30,23 @@ run-to-end-requires c κs =
 clear-requires : tie.Need-clear-requires
 clear-requires c κs = search needs
 
+cast-t22 : tie.Need-cast-t22
+cast-t22 c = search needs
+
 same-length : tie.Need-same-length
-same-length c = ap length (c .before .before .before .clear .ensures) ∙ length-zeros _ ∙ c .before .before .before .before .before .before .before .before .before .run-to-end .ensures .shows .size
+same-length c = ap length (c .before .before .before .before .clear .ensures) ∙ length-zeros _ ∙ c .before .before .before .before .before .before .before .before .before .before .run-to-end .ensures .shows .size
 
 same-length-2 : tie.Need-same-length-2
-same-length-2 c = outputLength (c .before .before .before .before .before .before .before .before .before .run-to-end .ensures)
+same-length-2 c = outputLength (c .before .before .before .before .before .before .before .before .before .before .run-to-end .ensures)
 
 returns-2 : tie.Need-returns-2
 returns-2 c =
-    let b = c .before .before .before .before .before .before .before .before .before .before .before .before .before .before in
+    let b = c .before .before .before .before .before .before .before .before .before .before .before .before .before .before .before in
     let a = b .before .before .before .before .before .args in
-    let r = c .before .before .before .before .before .before .before .before .before .run-to-end .ensures in
+    let r = c .before .before .before .before .before .before .before .before .before .before .run-to-end .ensures in
     let fits = sym (b .before .too-large .ensures) ∙ b .if1 .left in
     delivers standard (a .allowance) (now (a .text)) (now (a .cells)) (now (a .output)) _
-    (rw (c .before .before .before .clear .ensures) (reports standard (a .allowance) (now (a .text)) (now (a .cells)) (now (a .output)) (rw (c .before .before .before .before .before .before .before .before .before .before .before .before .before .standard-kinds .ensures) at r) refl fits))
+    (rw (c .before .before .before .before .clear .ensures) (reports standard (a .allowance) (now (a .text)) (now (a .cells)) (now (a .output)) (rw (c .before .before .before .before .before .before .before .before .before .before .before .before .before .before .standard-kinds .ensures) at r) refl fits))
 
 pub expand-spec : {M : Type 1} → statement M
 expand-spec =
@@ -54,6 +57,7 @@ expand-spec =
     standard-kinds-requires
     run-to-end-requires
     clear-requires
+    cast-t22
     same-length
     same-length-2
     returns-2)

@@ -1,13 +1,11 @@
 -- `gpm::put_report` stays within the line, since each number takes at most 21 bytes of it, and what the line holds follows from the
 -- six steps one after the other.
 use Rattle.io.proofs.Counting.{counts}
+use mathlib.Core.Path.{refl}
 use native.Mathlib.Omega.{arith}
 use borrow.Author.Needs.{needs}
 use Rattle.gpm.proofs.put_report.Statement.{statement}
 use Rattle.gpm.proofs.put_report.Tie as tie
-
-cast-put-number : tie.Need-cast-put-number
-cast-put-number c = search needs
 
 put-number-requires : tie.Need-put-number-requires
 put-number-requires c κs = search needs
@@ -31,13 +29,26 @@ same-length : tie.Need-same-length
 same-length c = search needs
 
 returns : tie.Need-returns
-returns c = (counts _ _ (omega arith), cc)
+returns c =
+    let sixth = c .before .before in
+    let fifth = sixth .before .before .before .before in
+    let fourth = fifth .before .before .before .before in
+    let third = fourth .before .before .before .before in
+    let second = third .before .before .before .before in
+    let first = second .before .before .before .before in (
+      counts _ _ (omega arith),
+      rw (sixth .put-number6 .ensures .1)
+          (rw (fifth .put-number5 .ensures .1)
+          (rw (fourth .put-number4 .ensures .1)
+          (rw (third .put-number3 .ensures .1)
+          (rw (second .put-number2 .ensures .1)
+          (rw (first .put-number .ensures .1) refl))))),
+    )
 
 pub put-report-spec : {M : Type 1} → statement M
 put-report-spec =
     tie.close
     (tie.spec
-    cast-put-number
     put-number-requires
     put-number-requires-2
     put-number-requires-3

@@ -1,0 +1,78 @@
+/*
+ * Vuzhatten: Strachey's General Purpose Macrogenerator in lent memory, for C11 and C++17 on x86-64.
+ *
+ * One call expands one text. It allocates nothing, keeps nothing between calls and calls nothing of the
+ * operating system; calls on memory of their own may run at the same time. It always returns, after at most
+ * `allowance` scans. What it reports and leaves is proved, for every text and all lent memory, where the
+ * caller keeps what "The caller" asks below.
+ */
+#ifndef GPM_H
+#define GPM_H
+
+#include <stddef.h>
+#include <stdint.h>
+
+#ifdef __cplusplus
+extern "C" {
+#endif
+
+/* The most that may be lent of each; one more is refused with GPM_TOO_LARGE. */
+#define GPM_TEXT_LIMIT 65536   /* bytes of text */
+#define GPM_CELLS_LIMIT 65536  /* cells of 32 bits */
+#define GPM_OUTPUT_LIMIT 65536 /* bytes of output */
+
+/* How a run ended. 0 and 1 finish it, 2 to 5 are about what was lent, 10 to 24 are faults of the text. */
+enum gpm_outcome {
+    GPM_FINISHED = 0,             /* the text ended outside quotes and calls */
+    GPM_FINISHED_AT_QUOTE = 1,    /* an unquoted > in the text, no call being collected; the rest is unread */
+    GPM_TOO_LARGE = 2,            /* text, cells or output over its limit: all counts 0, nothing touched */
+    GPM_NO_SCANS_LEFT = 3,        /* a further scan is due and the allowance has been used */
+    GPM_NO_CELLS_LEFT = 4,        /* the charge would exceed the cells lent */
+    GPM_NO_OUTPUT_LEFT = 5,       /* the bytes of this scan would exceed the output lent */
+    GPM_APPLIES_NOTHING = 10,     /* an unquoted ; in a body, with no call begun in that body still open */
+    GPM_PARAMETER_IN_TEXT = 11,   /* an unquoted ~ in the text while a call is collected */
+    GPM_PARAMETER_NOT_DIGIT = 12, /* ~ in a body, and next is no digit or the body ends */
+    GPM_NOT_SUPPLIED = 13,        /* a parameter fetched, or needed by a built-in, was not supplied */
+    GPM_BODY_IN_CALL = 14,        /* a body ended inside a call begun in it */
+    GPM_NOT_DEFINED = 15,         /* a name is not defined */
+    GPM_QUOTE_IN_CALL = 16,       /* an unquoted > in the text while a call is collected */
+    GPM_TEXT_IN_QUOTES = 17,      /* the text ended inside quotes */
+    GPM_TEXT_IN_CALL = 18,        /* the text ended inside a call */
+    GPM_BUILT_IN = 19,            /* VAL or UPDATE on a built-in */
+    GPM_BODY_BEING_READ = 20,     /* UPDATE of a definition whose body is being read */
+    GPM_UPDATE_TOO_LONG = 21,     /* UPDATE longer than the value first defined */
+    GPM_NOT_A_NUMBER = 22,        /* an operand is not a number in range */
+    GPM_DIVISOR_ZERO = 23,        /* the divisor is zero */
+    GPM_RESULT_OUT_OF_RANGE = 24  /* the result is out of range */
+};
+
+/* What a run reports. The byte at which a run is refused counts as read, and that scan counts. */
+typedef struct gpm_report {
+    uint64_t outcome; /* one of enum gpm_outcome */
+    uint64_t read;    /* bytes of the text read */
+    uint64_t written; /* bytes of output written */
+    uint64_t scans;   /* scans made */
+    uint64_t most;    /* the highest charge, in cells */
+    uint64_t live;    /* definitions standing at the end, built-ins not counted */
+} gpm_report;
+
+/*
+ * Expands a text.
+ *
+ * With outcome 0, 1, 3, 4, 5 or 10 to 24: the first report.written bytes of the output are the text's expansion
+ * so far, the bytes behind them are as they were, and all cells are 0.
+ * With outcome 2: nothing is touched.
+ * What the cells and the output hold before does not matter. The text is never written.
+ *
+ * The caller: text, cells and output point to as many bytes, cells and bytes as their lengths say, and not to
+ * NULL, also where a length is 0; cells lies at a multiple of 4; none of the three overlaps another; nothing else
+ * reads or writes cells and output, or writes the text, before the call returns.
+ */
+gpm_report gpm_expand(const uint8_t *text, size_t text_length, uint32_t *cells, size_t cells_length, uint8_t *output,
+                      size_t output_length, uint64_t allowance);
+
+#ifdef __cplusplus
+}
+#endif
+
+#endif
