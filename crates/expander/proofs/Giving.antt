@@ -4,7 +4,7 @@ use native.Mathlib.Omega.{arith}
 use mathlib.Core.Path.{_≡_, refl, sym, ap, subst, _∙_}
 use mathlib.Core.Bool.{Bool, true, false, cond, not}
 use mathlib.Core.List.{List, [], _∷_, _++_}
-use lib.ListN.{length, drop, getD, length-append, length-drop}
+use lib.ListN.{length, drop, getD}
 use lib.Dec.{leb, ltb}
 use borrow.Author.Tests.{eq-eqb, ne-eqb, leb-true}
 use Rattle.language.specs.Signs.{Bytes}
@@ -20,7 +20,7 @@ use Rattle.expander.specs.Machine as M
 use Rattle.expander.specs.Held.{Item, count}
 use Rattle.expander.proofs.Stack.{Places, address, items, places, calls, noCall}
 use Rattle.expander.proofs.Moves.{Collects, putHand}
-use Rattle.expander.proofs.Represents.{Represents, Simulates, goes, stops}
+use Rattle.expander.proofs.Represents.{Represents, Simulates, goes, stops, outputSize}
 use Rattle.expander.proofs.Putting.{roomTest, writes, collectsPlaced, overwrite, callBefore}
 use Rattle.expander.proofs.Applying.{Applied}
 use Rattle.expander.proofs.Calling.{rightTo, linksIs, outerCall, releaseIs, toAbove, underCells, leftDefinitions, freed, chargeIs}
@@ -110,9 +110,6 @@ module _ {n : ℕ} {older : List Definition} {whole start : List ℕ} {r : Run} 
       let e : low (getD l (r .call + 2) 0) ≡ p .call = ap low (linksIs a) ∙ outerCall a in
       let k : p .call < nowhere = omega (arith, callBefore n b (a .under) c, a .callIs, a .leftIs, a .room, a .shows .right, a .lent) in
       ne-eqb (low (getD l (r .call + 2) 0)) nowhere (λ (z : low (getD l (r .call + 2) 0) ≡ nowhere). absurd (omega arith))
-
-  pub outputSize : length o ≡ length start
-  outputSize = ap length (a .shows .output) ∙ omega (arith, length-append (s .standing .output) (drop (length (s .standing .output)) start), length-drop (length (s .standing .output)) start, a .shows .enough)
 
   -- the standing with the list gone and so much collected
   abbrev placedAt : ℕ → ℕ → ℕ → Run
@@ -205,7 +202,7 @@ module _ {n : ℕ} {older : List Definition} {whole start : List ℕ} {r : Run} 
     where
       test : ltb (length o - r .written) (length bs) ≡ not (leb (length (s .standing .output) + length bs) (length start))
       test =
-          ap (λ (k : ℕ). ltb (k - r .written) (length bs)) outputSize
+          ap (λ (k : ℕ). ltb (k - r .written) (length bs)) (outputSize (a .shows))
           ∙ ap (λ (k : ℕ). ltb (length start - k) (length bs)) (a .shows .written)
           ∙ roomTest (length start) (length (s .standing .output)) (length bs) (a .shows .enough)
 

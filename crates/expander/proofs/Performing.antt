@@ -33,7 +33,7 @@ use Rattle.expander.specs.Held.{Item, defined, width, encode, definition
 use Rattle.expander.proofs.Items.{encode-append, width-append}
 use Rattle.expander.proofs.Stack.{Places, Frame, address, At, items, places, calls, bodies, Valid}
 use Rattle.expander.proofs.Moves.{madeAll, madeLaid, madeBodies, madeValid}
-use Rattle.expander.proofs.Represents.{Simulates, goes}
+use Rattle.expander.proofs.Represents.{Simulates, goes, outputSize}
 use Rattle.expander.proofs.Finds.{Holds, Defines, DefinitionAt, definition-at, ArgumentAt, argument-at, argument-past, Newest, absent, present, newest-finds, isRead-finds}
 use Rattle.expander.proofs.Fetching.{validNamed, block-low, each}
 use Rattle.expander.proofs.Opening.{cell-is}
@@ -41,7 +41,7 @@ use Rattle.expander.proofs.Altering.{alter, alterItems, alter-append, a
 use Rattle.expander.proofs.Naming.{TextAt, numberOf, Own, unknown, known, builtIns-only, builtInName-is, calculate-is, answer-number, answer-refused}
 use Rattle.expander.proofs.Applying.{Applied, listOf}
 use Rattle.expander.proofs.Calling.{argumentsAt, linksIs, rightTo, toAbove, freed, releaseIs, oldest-items, begun, movedIs}
-use Rattle.expander.proofs.Giving.{refused as refusing, giveSim, outputSize}
+use Rattle.expander.proofs.Giving.{refused as refusing, giveSim}
 use Rattle.expander.proofs.Defining.{defSim}
 
 -- a value that is found is of bytes
@@ -214,7 +214,7 @@ module _ {n : ℕ} {whole start : List ℕ} {r : Run} {l o : List ℕ} {s : Stat
           rw (ne-eqb d nowhere (λ (e : d ≡ nowhere). absurd (omega (arith, at .below))), g, at .cells .named, at .cells .valued)
           (giveSim builtIns-free a v (moved from (r .call) (length v) l) (copied from (r .written) (length v) (lowBytes l) o)
           (λ e. moved-in from (r .call) (length v) l (omega (arith, a .shows .size)) (omega (arith, a .shows .size, a .carried, a .leftIs, a .room, a .shows .right)) ∙ ap (λ (y : List ℕ). placed (r .call) y l) (at .cells .valueIs))
-          (λ e. copied-in from (r .written) (length v) (lowBytes l) o (omega (arith, a .shows .size, length-lowBytes l)) (omega (arith, outputSize builtIns-free a, a .shows .written)) ∙ ap (λ (y : List ℕ). placed (r .written) y o) (block-low from v l (at .cells .valueIs) vo)))
+          (λ e. copied-in from (r .written) (length v) (lowBytes l) o (omega (arith, a .shows .size, length-lowBytes l)) (omega (arith, outputSize (a .shows), a .shows .written)) ∙ ap (λ (y : List ℕ). placed (r .written) y o) (block-low from v l (at .cells .valueIs) vo)))
 
   -- UPDATE -----------------------------------------------------------------------------------------------------------
 
@@ -363,7 +363,7 @@ module _ {n : ℕ} {whole start : List ℕ} {r : Run} {l o : List ℕ} {s : Stat
           let bytes = (answerOf (number z)) .decimal .bytes in
           giveSim builtIns-free a bs (copied 0 (r .call) (length bs) bytes l) (copied 0 (r .written) (length bs) bytes o)
           (λ q. copied-in 0 (r .call) (length bs) bytes l (omega (arith, x .short, x .size)) (omega (arith, a .shows .size, a .carried, a .leftIs, a .room, a .shows .right)) ∙ ap (λ (y : List ℕ). placed (r .call) y l) (x .bytes))
-          (λ q. copied-in 0 (r .written) (length bs) bytes o (omega (arith, x .short, x .size)) (omega (arith, outputSize builtIns-free a, a .shows .written)) ∙ ap (λ (y : List ℕ). placed (r .written) y o) (x .bytes))
+          (λ q. copied-in 0 (r .written) (length bs) bytes o (omega (arith, x .short, x .size)) (omega (arith, outputSize (a .shows), a .shows .written)) ∙ ap (λ (y : List ℕ). placed (r .written) y o) (x .bytes))
 
   -- A built-in -------------------------------------------------------------------------------------------------------
 

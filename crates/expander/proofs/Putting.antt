@@ -4,7 +4,7 @@ use native.Mathlib.Omega.{arith}
 use mathlib.Core.Path.{_≡_, refl, sym, ap, subst, _∙_}
 use mathlib.Core.Bool.{Bool, true, false, cond, not}
 use mathlib.Core.List.{List, [], _∷_, _++_, append-assoc}
-use lib.ListN.{length, take, drop, set, length-append, length-drop}
+use lib.ListN.{length, take, drop, set, length-append}
 use lib.Seq.{take-at, drop-at, length-take-le, drop-drop}
 use lib.Dec.{eqb, leb, ltb}
 use borrow.Author.Tests.{lt-ltb, le-ltb, le-leb, lt-leb, eq-eqb, ne-eqb, leb-true, leb-false}
@@ -22,7 +22,7 @@ use Rattle.expander.specs.Machine as M
 use Rattle.expander.specs.Machine.{After}
 use Rattle.expander.proofs.Stack.{Places, Frame, made, collects, reads, laid, items, places, calls, noCall}
 use Rattle.expander.proofs.Moves.{collect, putHand, Collects, collectLaid, collectLefts, collectCalls, collectBodies, collectValid}
-use Rattle.expander.proofs.Represents.{Represents, Simulates, goes, stops, chargeIs}
+use Rattle.expander.proofs.Represents.{Represents, Simulates, goes, stops, chargeIs, outputSize}
 
 -- Tests that agree ---------------------------------------------------------------------------------------------------
 
@@ -175,16 +175,13 @@ module _ {n : ℕ} {older : List Definition} {whole start : List ℕ} {r : Run} 
       rw (e, chargeIs free h) (pick (leb (r .charge + 1) n) (λ q. go (leb-true (r .charge + 1) n q)) (refusal 4))
 
   -- and where that of the output does
-  pub outputSize : length o ≡ length start
-  outputSize = ap length (h .shows .output) ∙ omega (arith, length-append (s .standing .output) (drop (length (s .standing .output)) start), length-drop (length (s .standing .output)) start, h .shows .enough)
-
   pub writing : (k : ℕ) {a : After} {t : Step} → (length (s .standing .output) + k ≤ length start → Simulates n older whole start a t)
       → Simulates n older whole start (cond (ltb (length o - r .written) k) (M.ends 5 r l o) a)
       (cond (leb (length (s .standing .output) + k) (length start)) t (S.ends 5 s))
   writing k {a} {t} go =
       let w = length (s .standing .output) in
       let e : ltb (length o - r .written) k ≡ not (leb (w + k) (length start)) =
-      rw (outputSize, h .shows .written) (roomTest (length start) w k (h .shows .enough)) in
+      rw (outputSize (h .shows), h .shows .written) (roomTest (length start) w k (h .shows .enough)) in
       rw e (pick (leb (w + k) (length start)) (λ q. go (leb-true (w + k) (length start) q)) (refusal 5))
 
   pub writingOne : {a : After} {t : Step} → (length (s .standing .output) + 1 ≤ length start → Simulates n older whole start a t)
@@ -192,7 +189,7 @@ module _ {n : ℕ} {older : List Definition} {whole start : List ℕ} {r : Run} 
       (cond (leb (length (s .standing .output) + 1) (length start)) t (S.ends 5 s))
   writingOne {a} {t} go =
       let w = length (s .standing .output) in
-      let e : leb (length o) (r .written) ≡ not (leb (w + 1) (length start)) = rw (outputSize, h .shows .written) (oneTest (length start) w) in
+      let e : leb (length o) (r .written) ≡ not (leb (w + 1) (length start)) = rw (outputSize (h .shows), h .shows .written) (oneTest (length start) w) in
       rw e (pick (leb (w + 1) (length start)) (λ q. go (leb-true (w + 1) (length start) q)) (refusal 5))
 
 -- One element set is a piece of one placed.
@@ -275,7 +272,7 @@ module _ {n : ℕ} {older : List Definition} {whole start : List ℕ} {r : Run} 
       subst (λ (z : List ℕ). Simulates n older whole start (M.goes (M.collected 1 r) z o) (next (S.withCalls (putHand (x ∷ []) (s .calls)) (S.noting (S.charge s + 1) s))))
       (sym (set-placed l (r .left) x fit)) (goes refl (collectsPlaced free h (x ∷ []) c e)))
       (writingOne free h λ e.
-      let fit : r .written < length o = omega (arith, outputSize free h, h .shows .written) in
+      let fit : r .written < length o = omega (arith, outputSize (h .shows), h .shows .written) in
       subst (λ (z : List ℕ). Simulates n older whole start (M.goes (M.wrote 1 r) l z) (next (S.withOutput (s .standing .output ++ (x ∷ [])) s)))
       (sym (set-placed o (r .written) x fit)) (writesPlaced (x ∷ []) e))
 
@@ -291,6 +288,6 @@ module _ {n : ℕ} {older : List Definition} {whole start : List ℕ} {r : Run} 
       (sym q) (goes refl (collectsPlaced free h bs c e)))
       (writing free h (length bs) λ e.
       let q : copied from (r .written) (length bs) (lowBytes l) o ≡ placed (r .written) bs o =
-      copied-in from (r .written) (length bs) (lowBytes l) o (omega (arith, h .shows .size, length-lowBytes l)) (omega (arith, outputSize free h, h .shows .written)) ∙ ap (λ (z : List ℕ). placed (r .written) z o) low in
+      copied-in from (r .written) (length bs) (lowBytes l) o (omega (arith, h .shows .size, length-lowBytes l)) (omega (arith, outputSize (h .shows), h .shows .written)) ∙ ap (λ (z : List ℕ). placed (r .written) z o) low in
       subst (λ (z : List ℕ). Simulates n older whole start (M.goes (M.wrote (length bs) r) l z) (next (S.withOutput (s .standing .output ++ bs) s)))
       (sym q) (writesPlaced bs e))

@@ -1,13 +1,13 @@
 -- What the standing in cells says of the standing of the scanning.
 use Prim.Native.Nat.{ℕ, _+_, _-_, _≤_}
 use native.Mathlib.Omega.{arith}
-use mathlib.Core.Path.{_≡_, refl, ap}
+use mathlib.Core.Path.{_≡_, refl, ap, _∙_}
 use mathlib.Core.List.{List, [], _∷_, _++_}
-use lib.ListN.{length, take, drop}
+use lib.ListN.{length, take, drop, length-append, length-drop}
 use Rattle.language.specs.Definitions.{Definition}
 use Rattle.language.specs.Charge.{listPrice, definitionsPrice}
 use Rattle.language.specs.Ends.{End}
-use Rattle.language.specs.Scanning.{State, Step, next, stop}
+use Rattle.language.specs.Scanning.{State, Standing, Step, next, stop}
 use Rattle.language.specs.Scanning as S
 use Rattle.language.proofs.Prices.{price-append}
 use Rattle.expander.specs.declared.run.Run.{Run}
@@ -37,6 +37,12 @@ pub record Represents (n : ℕ) (older : List Definition) (whole start : List �
 pub data Simulates (n : ℕ) (older : List Definition) (whole start : List ℕ) (a : After) : Step → Type 0 where
   goes : {s : State} → a .outcome ≡ goesOn → Represents n older whole start (a .run) (a .cells) (a .output) s → Simulates n older whole start a (next s)
   stops : {e : End} → Ended n older start a e → Simulates n older whole start a (stop e)
+
+-- the output is as long as it was lent
+pub outputSize : {n : ℕ} {older : List Definition} {start : List ℕ} {its : List Item} {r : Run} {l o : List ℕ} {w : Standing}
+    → Shows n older start its r l o w → length o ≡ length start
+outputSize {start = start} {w = w} h =
+    ap length (h .output) ∙ omega (arith, length-append (w .output) (drop (length (w .output)) start), length-drop (length (w .output)) start, h .enough)
 
 -- Charge -------------------------------------------------------------------------------------------------------------
 

@@ -4,7 +4,7 @@ use native.Mathlib.Omega.{arith}
 use mathlib.Core.Path.{_≡_, refl, sym, ap, subst, _∙_}
 use mathlib.Core.Bool.{Bool, true, false, true≢false, _||_}
 use mathlib.Core.List.{List, [], _∷_, _++_}
-use lib.ListN.{length, drop, length-append, length-drop}
+use lib.ListN.{length, drop, length-append}
 use lib.Dec.{ltb}
 use borrow.Author.Tests.{ltb-false}
 use Rattle.cells.specs.Block.{zeros}
@@ -214,12 +214,6 @@ allowanceUsed {T} {n} {start = start} {r = r} {l = l} {o = o} g none =
     subst (Ended n builtIns start (record { run = r; outcome = 3; cells = l; output = o }))
     (ap (λ (k : ℕ). S.endOf (S.scans L T k (next (g .state)))) (sym none) ∙ g .rest)
     (record { outcome = refl; its = items n (length builtIns) (g .shown .frames); shows = g .shown .shows })
-
--- the output is as long as it was
-pub outputLength : {n : ℕ} {start : List ℕ} {a : After} {e : End} → Ended n builtIns start a e → length (a .output) ≡ length start
-outputLength {start = start} {a = a} {e = e} h =
-    let w = h .shows in
-    omega (arith, ap length (w .output), length-append (e .output) (drop (length (e .output)) start), length-drop (length (e .output)) start, w .enough)
 
 -- The report ---------------------------------------------------------------------------------------------------------
 

@@ -5,7 +5,8 @@ use lib.ListN.{length}
 use denote.Ref.{now}
 use Rattle.cells.proofs.Blocks.{length-zeros}
 use Rattle.language.specs.Signs.{standard}
-use Rattle.expander.proofs.Running.{reports, refuses, delivers, cellsFit, outputLength}
+use Rattle.expander.proofs.Represents.{outputSize}
+use Rattle.expander.proofs.Running.{reports, refuses, delivers, cellsFit}
 use Rattle.expander.proofs.expand.Statement.{statement}
 use Rattle.expander.proofs.expand.Tie as tie
 
@@ -37,7 +38,7 @@ same-length : tie.Need-same-length
 same-length c = ap length (c .before .before .before .before .clear .ensures) ∙ length-zeros _ ∙ c .before .before .before .before .before .before .before .before .before .before .run-to-end .ensures .shows .size
 
 same-length-2 : tie.Need-same-length-2
-same-length-2 c = outputLength (c .before .before .before .before .before .before .before .before .before .before .run-to-end .ensures)
+same-length-2 c = outputSize (c .before .before .before .before .before .before .before .before .before .before .run-to-end .ensures .shows)
 
 returns-2 : tie.Need-returns-2
 returns-2 c =

@@ -4,7 +4,8 @@ use native.Mathlib.Omega.{arith}
 use borrow.Author.Needs.{needs}
 use lib.ListN.{length}
 use Rattle.expander.proofs.Fetching.{octetsOf}
-use Rattle.expander.proofs.Running.{Going, begins, readyOf, goesOnwards, endsNow, allowanceUsed, outputLength}
+use Rattle.expander.proofs.Represents.{outputSize}
+use Rattle.expander.proofs.Running.{Going, begins, readyOf, goesOnwards, endsNow, allowanceUsed}
 use Rattle.expander.proofs.run_to_end.Statement.{statement}
 use Rattle.expander.proofs.run_to_end.Tie as tie
 
@@ -34,7 +35,7 @@ same-length c =
 same-length-2 : tie.Need-same-length-2 Inv-loop μ-loop
 same-length-2 c =
     let b = c .before .before .before .before .before .before in
-    outputLength (endsNow (b .before .before .before .before .loop .inv) (b .before .before .before .loop-test .taken) _ (b .step .ensures) (c .if1 .taken))
+    outputSize (endsNow (b .before .before .before .before .loop .inv) (b .before .before .before .loop-test .taken) _ (b .step .ensures) (c .if1 .taken) .shows)
 
 returns : tie.Need-returns Inv-loop μ-loop
 returns c =
@@ -56,7 +57,7 @@ same-length-3 : tie.Need-same-length-3 Inv-loop μ-loop
 same-length-3 c = let l = c .before .loop in allowanceUsed (l .inv) (omega arith) .shows .size
 
 same-length-4 : tie.Need-same-length-4 Inv-loop μ-loop
-same-length-4 c = let l = c .before .loop in outputLength (allowanceUsed (l .inv) (omega arith))
+same-length-4 c = let l = c .before .loop in outputSize (allowanceUsed (l .inv) (omega arith) .shows)
 
 returns-2 : tie.Need-returns-2 Inv-loop μ-loop
 returns-2 c =

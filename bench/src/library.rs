@@ -1,0 +1,59 @@
+//! The product, called as C calls it.
+use reference::ends::Report;
+
+/// What the program `gpm` lends to a run.
+pub const CELLS: usize = 16_384;
+pub const OUTPUT: usize = 65_536;
+pub const ALLOWANCE: u64 = 10_000_000;
+
+#[link(name = "expander", kind = "static")]
+extern "C" {
+    fn gpm_expand(
+        text: *const u8,
+        text_length: usize,
+        cells: *mut u32,
+        cells_length: usize,
+        output: *mut u8,
+        output_length: usize,
+        allowance: u64,
+    ) -> Report;
+}
+
+/// Memory that is lent to one run after another.
+pub struct Memory {
+    cells: Vec<u32>,
+    output: Vec<u8>,
+}
+
+impl Memory {
+    pub fn new() -> Memory {
+        Memory {
+            cells: vec![0; CELLS],
+            output: vec![0; OUTPUT],
+        }
+    }
+
+    /// Wipes what the last run wrote, so that a run that writes nothing cannot pass for a right one.
+    pub fn wipe(&mut self) {
+        self.output.fill(0);
+    }
+
+    pub fn expand(&mut self, text: &[u8]) -> Report {
+        // Safety: each pointer is that of a live slice and goes with its length; only cells and output are written.
+        unsafe {
+            gpm_expand(
+                text.as_ptr(),
+                text.len(),
+                self.cells.as_mut_ptr(),
+                self.cells.len(),
+                self.output.as_mut_ptr(),
+                self.output.len(),
+                ALLOWANCE,
+            )
+        }
+    }
+
+    pub fn written(&self, report: &Report) -> &[u8] {
+        &self.output[..report.written as usize]
+    }
+}

@@ -1,0 +1,91 @@
+//! Compares the library with a plain reference, and the program `gpm` with GNU m4, and prints the tables of
+//! docs/PERFORMANCE.md. Nothing here asserts a time.
+mod document;
+mod growth;
+mod in_process;
+mod library;
+mod machine;
+mod markdown;
+mod processes;
+mod profile;
+mod timing;
+mod workloads;
+
+use processes::Programs;
+use std::env;
+use std::path::PathBuf;
+use std::process::ExitCode;
+
+const ROUNDS: usize = 60;
+
+/// What the command line asks for. `once` is for a profiler: the library alone, on one workload.
+struct Request {
+    root: PathBuf,
+    rounds: usize,
+    write: bool,
+    once: Option<String>,
+}
+
+impl Request {
+    fn of(mut words: impl Iterator<Item = String>) -> Option<Request> {
+        let root = words.next()?.into();
+        let mut request = Request {
+            root,
+            rounds: ROUNDS,
+            write: false,
+            once: None,
+        };
+        while let Some(word) = words.next() {
+            match word.as_str() {
+                "--write" => request.write = true,
+                "--once" => request.once = Some(words.next()?),
+                _ => request.rounds = word.parse().ok().filter(|rounds| *rounds > 0)?,
+            }
+        }
+        Some(request)
+    }
+}
+
+fn main() -> ExitCode {
+    let Some(request) = Request::of(env::args().skip(1)) else {
+        eprintln!("usage: bench/run [--write] [--once WORK] [ROUNDS]");
+        return ExitCode::from(2);
+    };
+    match answer(&request) {
+        Ok(()) => ExitCode::SUCCESS,
+        Err(fault) => {
+            eprintln!("bench/run: {fault}");
+            ExitCode::FAILURE
+        }
+    }
+}
+
+fn answer(request: &Request) -> Result<(), String> {
+    if let Some(name) = &request.once {
+        return profile::once(&workloads::all(), name);
+    }
+    let tables = measured(request);
+    print!("{tables}");
+    if request.write {
+        document::write(&request.root.join("docs/PERFORMANCE.md"), &tables)?;
+    }
+    Ok(())
+}
+
+fn measured(request: &Request) -> String {
+    let Request { root, rounds, .. } = request;
+    let programs = Programs::of(root);
+    let workloads = workloads::all();
+    let machine = machine::described(programs.m4.as_deref());
+    let in_process = in_process::table(&workloads, *rounds);
+    let processes = processes::table(&programs, &workloads, *rounds);
+    let growth = growth::tables(&programs, *rounds);
+    let profile = profile::table(root, &workloads);
+    format!(
+        "Best of {rounds} rounds.\n\n{machine}\n\
+         ### In process: the library and the reference\n\n{in_process}\n\
+         ### Whole processes: gpm and m4\n\n{processes}\n\
+         ### Growth\n\n{growth}\n\
+         ### Instructions of the library\n\n{profile}"
+    )
+}

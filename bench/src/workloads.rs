@@ -1,0 +1,136 @@
+//! The work that is measured: each workload is written for GPM and for m4, with the output that both must give. In m4
+//! parameters are quoted where GPM copies them unscanned.
+const LINE: &str = "the coin meter reads 41250 at noon\n";
+
+pub struct Workload {
+    pub name: String,
+    pub gpm: String,
+    pub m4: String,
+    pub output: String,
+}
+
+/// All of them, at sizes that the program `gpm` has room for.
+pub fn all() -> Vec<Workload> {
+    vec![
+        plain(1_850),
+        quoted(1_650),
+        calls(7_200),
+        nesting(500, 30),
+        counting(100, 100),
+        oldest(1_000, 2_000),
+        newest(1_000, 2_000),
+        long_arguments(8_000, 8),
+        dropped(2_900),
+    ]
+}
+
+/// No text at all: what it takes to start.
+pub fn nothing() -> Workload {
+    Workload {
+        name: "empty text".to_string(),
+        gpm: String::new(),
+        m4: String::new(),
+        output: String::new(),
+    }
+}
+
+/// Text without signs.
+pub fn plain(lines: usize) -> Workload {
+    let text = LINE.repeat(lines);
+    Workload {
+        name: "plain text".to_string(),
+        gpm: text.clone(),
+        m4: text.clone(),
+        output: text,
+    }
+}
+
+/// Quotes in quotes. m4 is given GPM's quotes, since inner ones are copied.
+pub fn quoted(lines: usize) -> Workload {
+    let text = "<the coin meter reads <41250> at noon>\n".repeat(lines);
+    Workload {
+        name: "quoted text".to_string(),
+        m4: format!("changequote(<,>){text}"),
+        gpm: text,
+        output: "the coin meter reads <41250> at noon\n".repeat(lines),
+    }
+}
+
+/// A small macro with two parameters.
+pub fn calls(count: usize) -> Workload {
+    Workload {
+        name: "many calls".to_string(),
+        gpm: format!("$DEF,m,<[~1|~2]>;{}", "$m,a,b;\n".repeat(count)),
+        m4: format!("define(`m',`[`$1'|`$2']'){}", "m(a,b)\n".repeat(count)),
+        output: "[a|b]\n".repeat(count),
+    }
+}
+
+/// Calls in the arguments of calls, so deep and so many times.
+pub fn nesting(depth: usize, times: usize) -> Workload {
+    let around = |open: &str, close: &str| format!("{}x{}\n", open.repeat(depth), close.repeat(depth)).repeat(times);
+    Workload {
+        name: "deep nesting".to_string(),
+        gpm: format!("$DEF,i,<[~1]>;{}", around("$i,", ";")),
+        m4: format!("define(`i',`[`$1']'){}", around("i(", ")")),
+        output: around("[", "]"),
+    }
+}
+
+/// A loop that counts down to 0, by recursion and Strachey's conditional, so many times.
+pub fn counting(from: usize, times: usize) -> Workload {
+    let counted: String = (1..=from).rev().map(|number| format!("{number}.")).collect();
+    Workload {
+        name: "counted loop".to_string(),
+        gpm: format!(
+            "$DEF,loop,<$~1,$DEF,~1,<~0.$loop,$-,~0,1;;>;$DEF,0,<>;;>;{}",
+            format!("$loop,{from};\n").repeat(times)
+        ),
+        m4: format!(
+            "define(`loop',`ifelse($1,0,,`$1.loop(decr($1))')'){}",
+            format!("loop({from})\n").repeat(times)
+        ),
+        output: format!("{counted}\n").repeat(times),
+    }
+}
+
+/// Calls of the first of so many definitions.
+pub fn oldest(definitions: usize, calls: usize) -> Workload {
+    one_of("oldest definition", definitions, 0, calls)
+}
+
+/// Calls of the last of so many definitions.
+pub fn newest(definitions: usize, calls: usize) -> Workload {
+    one_of("newest definition", definitions, definitions - 1, calls)
+}
+
+fn one_of(name: &str, definitions: usize, which: usize, calls: usize) -> Workload {
+    let define = |one: fn(usize) -> String| (0..definitions).map(one).collect::<String>();
+    Workload {
+        name: name.to_string(),
+        gpm: define(|at| format!("$DEF,n{at:04},v{at:04};")) + &format!("$n{which:04};\n").repeat(calls),
+        m4: define(|at| format!("define(`n{at:04}',`v{at:04}')")) + &format!("n{which:04}\n").repeat(calls),
+        output: format!("v{which:04}\n").repeat(calls),
+    }
+}
+
+/// One parameter of so many bytes, quoted and copied unscanned.
+pub fn long_arguments(length: usize, times: usize) -> Workload {
+    let argument = &LINE.repeat(length / LINE.len() + 1)[..length];
+    Workload {
+        name: "long arguments".to_string(),
+        gpm: format!("$DEF,m,<[~1]>;{}", format!("$m,<{argument}>;\n").repeat(times)),
+        m4: format!("define(`m',`[`$1']'){}", format!("m(`{argument}')\n").repeat(times)),
+        output: format!("[{argument}]\n").repeat(times),
+    }
+}
+
+/// Definitions that go with the call in whose list they were made.
+pub fn dropped(count: usize) -> Workload {
+    Workload {
+        name: "dropped definitions".to_string(),
+        gpm: "$t,x$DEF,t,<[~1]>;;\n".repeat(count),
+        m4: "pushdef(`t',`[`$1']')t(x)popdef(`t')\n".repeat(count),
+        output: "[x]\n".repeat(count),
+    }
+}

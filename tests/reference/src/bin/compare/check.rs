@@ -1,0 +1,116 @@
+//! One check: the library's run of a script against both definitions.
+use crate::lending;
+use crate::library;
+use crate::memory::Memory;
+use reference::ends::{End, Report};
+use reference::scanning::{self, Lent};
+
+/// What a script's run is lent, and how it ends by scanning.
+pub struct Run {
+    pub lent: Lent,
+    pub scanned: End,
+}
+
+impl Run {
+    pub fn new(text: &[u8], lent: Lent) -> Run {
+        let scanned = scanning::run(text, &lent);
+        Run { lent, scanned }
+    }
+}
+
+/// The first thing that differed, and all that was come to.
+pub struct Difference {
+    pub what: String,
+    pub run: Run,
+    pub report: Report,
+    pub output: Vec<u8>,
+    pub substituted: Option<End>,
+}
+
+/// The library's run must be that of scanning, leave the memory as document 01 says, and meet demand 3.
+pub fn check(memory: &mut Memory, text: &[u8], run: Run, substituted: &Option<End>) -> Result<Report, Box<Difference>> {
+    memory.lend(text, &run.lent);
+    let report = library::expand(memory, run.lent.allowance);
+    let checked = against_scanning(memory, &report, &run.scanned)
+        .and_then(|()| left(memory, text, &report))
+        .and_then(|()| against_substitution(memory, text, &report, &run, substituted));
+    checked.map(|()| report).map_err(|what| {
+        let written = memory.output.lent().len().min(report.written as usize);
+        let output = memory.output.lent()[..written].to_vec();
+        let substituted = substituted.clone();
+        Box::new(Difference {
+            what,
+            run,
+            report,
+            output,
+            substituted,
+        })
+    })
+}
+
+fn hold(holds: bool, what: &str) -> Result<(), String> {
+    holds.then_some(()).ok_or_else(|| what.to_string())
+}
+
+fn wrote(memory: &Memory, end: &End) -> bool {
+    memory.output.lent().get(..end.output.len()) == Some(&end.output)
+}
+
+fn against_scanning(memory: &Memory, report: &Report, scanned: &End) -> Result<(), String> {
+    hold(*report == scanned.report, "the report is not that of scanning")?;
+    hold(wrote(memory, scanned), "the output is not that of scanning")
+}
+
+/// What the memory holds after the run.
+fn left(memory: &Memory, text: &[u8], report: &Report) -> Result<(), String> {
+    hold(memory.text.guards_kept(), "memory beside the text is changed")?;
+    hold(memory.cells.guards_kept(), "memory beside the cells is changed")?;
+    hold(memory.output.guards_kept(), "memory beside the output is changed")?;
+    hold(memory.text.lent() == text, "the text is changed")?;
+    let written = report.written as usize;
+    hold(
+        memory.output.kept_from(written),
+        "the output is changed past the bytes written",
+    )?;
+    if report.outcome == 2 {
+        return hold(memory.cells.kept_from(0), "cells are changed, with outcome 2");
+    }
+    zero(memory.cells.lent())
+}
+
+/// All cells at once first, which is fast.
+fn zero(cells: &[u32]) -> Result<(), String> {
+    if cells.iter().fold(0, |all, cell| all | cell) == 0 {
+        return Ok(());
+    }
+    let place = cells.iter().position(|&cell| cell != 0).unwrap_or_default();
+    Err(format!("cell {place} is {}, not zero", cells[place]))
+}
+
+/// Demand 3: the end of substitution wherever what is lent suffices for it, and else 3, 4 or 5.
+fn against_substitution(
+    memory: &Memory,
+    text: &[u8],
+    report: &Report,
+    run: &Run,
+    substituted: &Option<End>,
+) -> Result<(), String> {
+    if lending::too_long(text, &run.lent) {
+        return hold(report.outcome == 2, "the outcome is not 2");
+    }
+    match substituted {
+        Some(end) if lending::suffices(&run.lent, &end.report) => {
+            hold(*report == end.report, "the report is not that of substitution")?;
+            hold(wrote(memory, end), "the output is not that of substitution")?;
+            let same = run.scanned.standing == end.standing;
+            hold(
+                same,
+                "the definitions standing, by scanning, are not those of substitution",
+            )
+        }
+        _ => hold(
+            !lending::ended(report),
+            "substitution has no such end within what was lent",
+        ),
+    }
+}

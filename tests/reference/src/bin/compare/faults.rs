@@ -1,0 +1,120 @@
+//! Pieces of script that end a run at a chosen outcome, where they are reached.
+use crate::built_ins;
+use crate::grower::Place;
+use crate::numbers;
+use crate::random::Random;
+
+/// The outcomes that a planted piece leads to.
+pub const PLANTED: [u64; 16] = [1, 10, 11, 12, 13, 14, 15, 16, 17, 18, 19, 20, 21, 22, 23, 24];
+
+/// A piece for a fault of the text, or for the end at a bare `>`.
+pub fn planted(outcome: u64, place: Place, random: &mut Random) -> Vec<u8> {
+    let in_body = place.parameters.is_some() && random.one_in(2);
+    match outcome {
+        1 => b">".to_vec(),
+        10 | 12 | 14 => in_some_body(outcome, in_body, random),
+        11 => text(random.pick(&["$a,~1;", "$~;", "$a$DEF,a,x;~", "$DEF,z,a,~1~2;"])),
+        13 => missing(in_body, random),
+        15 => text(random.pick(&[
+            "$zz;",
+            "$VAL,zz;",
+            "$UPDATE,zz,x;",
+            "$DEFF,a,b;",
+            "$<a ;>;",
+            "$k$DEF,kk,;,1;",
+        ])),
+        16 => text(random.pick(&["$a>", "$DEF,a,x>y;", "$a,$b,<c>>;"])),
+        17 => text(random.pick(&["<", "$a,<", "<<a>", "$DEF,a,<<x>;"])),
+        18 => text(random.pick(&["$", "$a,b", "$DEF,k,$a,<c>", "$$"])),
+        19 => built_in(random),
+        20 => being_read(random),
+        21 => longer(random),
+        22 => not_a_number(random),
+        23 => divided_by_zero(random),
+        _ => numbers::exceeding(random),
+    }
+}
+
+fn text(piece: &str) -> Vec<u8> {
+    piece.as_bytes().to_vec()
+}
+
+/// The piece alone where a body is being written, else a macro of it and a call.
+fn in_some_body(outcome: u64, in_body: bool, random: &mut Random) -> Vec<u8> {
+    let piece = match outcome {
+        10 => random.pick(&["x;", ";", "$DEF,m,z;;", "<;>;"]),
+        12 => random.pick(&["~", "~x", "~~1", "~<1>", "~,", "~;", "~/", "~:", "$a,~-1;"]),
+        _ => random.pick(&["$", "$j", "$a,b", "$DEF,a,<x;>", "$k,$VAL,a"]),
+    };
+    if in_body {
+        return text(piece);
+    }
+    let call = random.pick(&["$z;", "$z,1,2;", "$VAL,$z;;", "$DEF,y,<$z;>;$y;"]);
+    format!("$DEF,z,<{piece}>;{call}").into_bytes()
+}
+
+fn missing(in_body: bool, random: &mut Random) -> Vec<u8> {
+    let piece = random.pick(&[
+        "$DEF,z,<~2>;$z,1;",
+        "$DEF,z,<x~1>;$z;",
+        "$DEF,z,<~9>;$z,1,2,3,4,5,6,7,8;",
+    ]);
+    let built_in = random.pick(&built_ins::ALL);
+    match random.below(4) {
+        _ if in_body => text("~9"),
+        0 => text(piece),
+        1 if built_in != "VAL" => format!("${built_in},1;").into_bytes(),
+        2 => format!("${built_in}<>;").into_bytes(),
+        _ => format!("${built_in};").into_bytes(),
+    }
+}
+
+fn built_in(random: &mut Random) -> Vec<u8> {
+    let built_in = random.pick(&built_ins::ALL);
+    match random.below(3) {
+        0 => format!("$UPDATE,{built_in},x;").into_bytes(),
+        1 => format!("$UPDATE,{built_in},;").into_bytes(),
+        _ => format!("$VAL,{built_in};").into_bytes(),
+    }
+}
+
+fn being_read(random: &mut Random) -> Vec<u8> {
+    text(random.pick(&[
+        "$DEF,z,<x$UPDATE,z,1;>;$z;",
+        "$DEF,z,<$y;>;$DEF,y,<$UPDATE,z,;>;$z;",
+        "$DEF,z,<$y,$UPDATE,z,1;;>;$z;",
+        "$DEF,z,<$~1;>;$DEF,y,<$UPDATE,z,x;>;$z,y;",
+        "$z,$DEF,z,<$UPDATE,~0,~0;>;;",
+        "$DEF,z,<$UPDATE,z,$VAL,z;$VAL,z;;>;$z;",
+    ]))
+}
+
+fn longer(random: &mut Random) -> Vec<u8> {
+    text(random.pick(&[
+        "$DEF,z,;$UPDATE,z,x;",
+        "$DEF,z,ab;$UPDATE,z,c;$UPDATE,z,abc;",
+        "$DEF,z,<~1>;$UPDATE,z,<<a>>;",
+        "$DEF,z,<$UPDATE,y,~1;>;$DEF,y,x;$z,y;$z,xy;",
+        "$UPDATE,z,abc$DEF,z,ab;;",
+    ]))
+}
+
+/// Also with a divisor zero, and with both operands wrong.
+fn not_a_number(random: &mut Random) -> Vec<u8> {
+    let operation = random.pick(&built_ins::ARITHMETIC);
+    let number = numbers::literal(random).text;
+    let wrong = numbers::wrong(random);
+    let (left, right) = match random.below(4) {
+        0 => (wrong, number),
+        1 => (number, wrong),
+        2 => (wrong, numbers::spelt(0, random)),
+        _ => (wrong, numbers::wrong(random)),
+    };
+    numbers::call(operation, &left, &right, random)
+}
+
+fn divided_by_zero(random: &mut Random) -> Vec<u8> {
+    let operation = random.pick(&["Quot", "Rem"]);
+    let (dividend, zero) = (numbers::literal(random).text, numbers::spelt(0, random));
+    numbers::call(operation, &dividend, &zero, random)
+}

@@ -1,0 +1,47 @@
+//! The mix of scripts.
+use crate::faults::PLANTED;
+use crate::grower::grown;
+use crate::noise;
+use crate::random::Random;
+
+/// How many items a script is grown from: mostly few, seldom hundreds.
+fn size(random: &mut Random) -> usize {
+    match random.below(80) {
+        0..=1 => random.below(2),
+        2..=58 => random.between(2, 14),
+        59..=78 => random.between(14, 28),
+        _ => random.between(28, 300),
+    }
+}
+
+/// A script with a length about the longest that may be lent: plain bytes stand before it.
+fn long(random: &mut Random) -> Vec<u8> {
+    let script = grown(random, 6, None);
+    let length = random.between(65_534, 65_539);
+    let mut text = vec![b'y'; length.saturating_sub(script.len())];
+    text.extend(script);
+    text
+}
+
+pub fn script(random: &mut Random) -> Vec<u8> {
+    if random.one_in(2_500) {
+        return long(random);
+    }
+    let items = size(random);
+    match random.below(100) {
+        0..=9 => noise::raw(random, 3 * items),
+        10..=35 => {
+            let fault = PLANTED[random.below(PLANTED.len())];
+            grown(random, items, Some(fault))
+        }
+        36..=43 => {
+            let script = grown(random, items, None);
+            noise::edited(script, random)
+        }
+        44..=47 => {
+            let script = grown(random, items, None);
+            noise::cut(script, random)
+        }
+        _ => grown(random, items, None),
+    }
+}

@@ -1,0 +1,110 @@
+//! The memory that is lent: full of rubbish, with guards around it that must keep theirs.
+use crate::lending::LONGEST;
+use crate::random::Random;
+use reference::scanning::Lent;
+use std::ops::Range;
+
+/// So many bytes, or cells, stand at least on each side.
+const GUARD: usize = 64;
+/// From where in the rubbish a run's may be taken.
+const ORIGINS: usize = 1_024;
+
+/// One of text, cells and output.
+pub struct Area<T> {
+    rubbish: Vec<T>,
+    bare: bool,
+    whole: Vec<T>,
+    /// From where in the rubbish the whole was filled.
+    origin: usize,
+    /// Where the lent part stands in the whole.
+    lent: Range<usize>,
+}
+
+impl<T: Copy + PartialEq> Area<T> {
+    fn new(bare: bool, mut rubbish: impl FnMut() -> T) -> Area<T> {
+        let rubbish = (0..ORIGINS + LONGEST + 4 * GUARD).map(|_| rubbish()).collect();
+        Area {
+            rubbish,
+            bare,
+            whole: Vec::new(),
+            origin: 0,
+            lent: 0..0,
+        }
+    }
+
+    /// Lends so much of it, at a place that is aligned now this way and now that. Bare, it is an allocation of exactly
+    /// that length, which a memory checker watches.
+    fn lend(&mut self, length: usize, origin: usize) {
+        self.origin = origin;
+        if self.bare {
+            self.lent = 0..length;
+            self.whole = self.rubbish[origin..origin + length].to_vec();
+            return;
+        }
+        let before = GUARD + origin % 8;
+        self.lent = before..before + length;
+        self.whole.clear();
+        self.whole
+            .extend_from_slice(&self.rubbish[origin..origin + before + length + GUARD]);
+    }
+
+    /// Where the lent part begins, for the library alone. Where nothing is lent it is aligned and not null.
+    pub fn pointer(&mut self) -> *mut T {
+        self.whole.as_mut_ptr().wrapping_add(self.lent.start)
+    }
+
+    pub fn lent(&self) -> &[T] {
+        &self.whole[self.lent.clone()]
+    }
+
+    fn kept(&self, places: Range<usize>) -> bool {
+        self.whole[places.clone()] == self.rubbish[self.origin..][places]
+    }
+
+    pub fn guards_kept(&self) -> bool {
+        self.kept(0..self.lent.start) && self.kept(self.lent.end..self.whole.len())
+    }
+
+    /// Whether the lent part is as it was, from a place on.
+    pub fn kept_from(&self, place: usize) -> bool {
+        self.kept(self.lent.start + place..self.lent.end)
+    }
+}
+
+/// Now any number, now one that might pass for a place or a length.
+fn rubbish_cell(random: &mut Random) -> u32 {
+    let small = random.below(300) as u32;
+    if random.one_in(2) {
+        small
+    } else {
+        random.next() as u32
+    }
+}
+
+pub struct Memory {
+    pub text: Area<u8>,
+    pub cells: Area<u32>,
+    pub output: Area<u8>,
+}
+
+impl Memory {
+    /// Bare memory has no guards.
+    pub fn new(bare: bool) -> Memory {
+        let mut random = Random::new(0, 0);
+        Memory {
+            text: Area::new(bare, || random.byte()),
+            cells: Area::new(bare, || rubbish_cell(&mut random)),
+            output: Area::new(bare, || random.byte()),
+        }
+    }
+
+    /// Lends a text, cells and output, with rubbish that the text and the sizes alone decide.
+    pub fn lend(&mut self, text: &[u8], lent: &Lent) {
+        let origin = (text.len() * 31 + lent.cells * 7 + lent.output) % ORIGINS;
+        self.text.lend(text.len(), origin);
+        let places = self.text.lent.clone();
+        self.text.whole[places].copy_from_slice(text);
+        self.cells.lend(lent.cells, origin);
+        self.output.lend(lent.output, origin);
+    }
+}

@@ -1,0 +1,522 @@
+//! Scripts with known ends, worked out by hand from document 01, against both halves.
+use crate::arithmetic::{reckon, Operation};
+use crate::ends::End;
+use crate::scanning::{run, run_traced, Handled, Lent};
+use crate::signs::{KINDS, LIMIT};
+use crate::substitution::{substitute, Bounds};
+
+const LENT: Lent = Lent {
+    cells: 16_384,
+    output: 65_536,
+    allowance: 10_000_000,
+};
+
+const BOUNDS: Bounds = Bounds {
+    depth: 100,
+    scans: 1_000_000,
+    charge: 1_000_000,
+    output: 1_000_000,
+};
+
+fn line(end: &End) -> String {
+    let report = &end.report;
+    assert_eq!(report.written, end.output.len() as u64);
+    assert_eq!(report.live, end.standing.len() as u64);
+    format!(
+        "{} {} {} {} {} {}",
+        report.outcome, report.read, report.written, report.scans, report.most, report.live
+    )
+}
+
+fn text(bytes: &[u8]) -> &str {
+    std::str::from_utf8(bytes).expect("the cases are ASCII")
+}
+
+/// The end, which both halves give.
+fn end(script: &str) -> End {
+    let scanned = run(script.as_bytes(), &LENT);
+    assert_eq!(
+        substitute(script.as_bytes(), &BOUNDS).as_ref(),
+        Some(&scanned),
+        "{script}"
+    );
+    scanned
+}
+
+/// Each script with its report and its output.
+fn check(cases: &[(&str, &str, &str)]) {
+    for (script, report, output) in cases {
+        let end = end(script);
+        assert_eq!((line(&end).as_str(), text(&end.output)), (*report, *output), "{script}");
+    }
+}
+
+/// Each script with its outcome and its output.
+fn check_outcomes(cases: &[(&str, u64, &str)]) {
+    for (script, outcome, output) in cases {
+        let end = end(script);
+        assert_eq!((end.report.outcome, text(&end.output)), (*outcome, *output), "{script}");
+    }
+}
+
+/// Each script with the cells and the output lent, and its report; by scanning alone.
+fn check_lent(cases: &[(&str, usize, usize, &str)]) {
+    for &(script, cells, output, report) in cases {
+        let lent = Lent { cells, output, ..LENT };
+        assert_eq!(line(&run(script.as_bytes(), &lent)), report, "{script} {lent:?}");
+    }
+}
+
+/// Each script with the allowance and its report; by scanning alone.
+fn check_allowance(cases: &[(&str, u64, &str)]) {
+    for &(script, allowance, report) in cases {
+        let lent = Lent { allowance, ..LENT };
+        assert_eq!(line(&run(script.as_bytes(), &lent)), report, "{script} {lent:?}");
+    }
+}
+
+/// Name, value and defined length of each definition standing, newest first.
+fn standing(script: &str) -> Vec<(String, String, usize)> {
+    let own = |bytes: &[u8]| text(bytes).to_string();
+    let end = end(script);
+    end.standing
+        .iter()
+        .map(|it| (own(&it.name), own(&it.value), it.defined))
+        .collect()
+}
+
+fn is(name: &str, value: &str, defined: usize) -> (String, String, usize) {
+    (name.to_string(), value.to_string(), defined)
+}
+
+const A: &str = "$DEF,k,<p~1>;$k,7;";
+
+#[test]
+fn table_of_document_01() {
+    check(&[
+        (A, "0 18 2 22 16 1", "p7"),
+        ("", "0 0 0 1 0 0", ""),
+        ("$A,X,U,$DEF,A,<~1~2~1>;;", "0 24 3 29 27 0", "XUX"),
+        ("a<b<c>d>e", "0 9 7 10 0 0", "ab<c>de"),
+        ("p>q", "1 2 1 2 0 0", "p"),
+        ("$DEF,k,<1,2>;$DEF,j,<~1+~2>;$j,$k;;", "0 35 3 44 33 2", "1+2"),
+        ("$DEF,k,<x;>;$k;", "10 15 1 17 13 1", "x"),
+        ("$DEF,k,<$j>;$k;", "14 15 0 18 18 1", ""),
+        (
+            "$DEF,t,<$~1,$DEF,~1,no;$DEF,a,yes;;>;$t,a;$t,b;",
+            "0 47 5 107 67 1",
+            "yesno",
+        ),
+        ("$DEF,k,ab;$UPDATE,k,c;$k;$UPDATE,k,xy;$k;", "0 41 3 47 23 1", "cxy"),
+        ("$DEF,k,ab;$UPDATE,k,c;$k;$UPDATE,k,xyz;$k;", "21 39 1 41 24 1", "c"),
+        ("$DEF,k,<$UPDATE,k,a;>;$k;", "20 25 0 37 38 1", ""),
+        ("$DEF,mk,<$DEF,m,z;>;$mk;$m;", "0 27 1 40 34 2", "z"),
+        ("$DEF,k,<[~1]>;$k,a$DEF,m,z;b;", "0 29 4 34 28 1", "[ab]"),
+        ("$-,3,5;", "0 7 2 8 10 0", "-2"),
+        ("$Quot,-7,2;", "0 11 2 12 14 0", "-3"),
+        ("$Rem,-7,2;", "0 10 2 11 13 0", "-1"),
+        ("~1", "0 2 2 3 0 0", "~1"),
+        ("$a,~1;", "11 4 0 4 6 0", ""),
+        ("$j;", "15 3 0 3 6 0", ""),
+    ]);
+}
+
+#[test]
+fn table_of_document_01_by_scanning_alone() {
+    check_lent(&[(A, 15, 65_536, "4 18 0 18 15 1"), (A, 16, 2, "0 18 2 22 16 1")]);
+    check_allowance(&[("", 0, "3 0 0 0 0 0"), ("", 1, "0 0 0 1 0 0")]);
+}
+
+#[test]
+fn lent_over_the_limit() {
+    let long = "x".repeat(LIMIT + 1);
+    let nothing = "2 0 0 0 0 0";
+    check_lent(&[
+        (&long, 0, LIMIT, nothing),
+        (A, LIMIT + 1, LIMIT, nothing),
+        (A, LIMIT, LIMIT + 1, nothing),
+        (A, LIMIT, LIMIT, "0 18 2 22 16 1"),
+        (&long[1..], LIMIT, LIMIT, "0 65536 65536 65537 0 0"),
+    ]);
+    check_allowance(&[(&long, 0, nothing)]);
+}
+
+#[test]
+fn allowance_used() {
+    check_allowance(&[
+        (A, 22, "0 18 2 22 16 1"),
+        (A, 21, "3 18 2 21 16 1"),
+        (A, 19, "3 18 1 19 16 1"),
+        (A, 12, "3 12 0 12 13 0"),
+        ("p>q", 2, "1 2 1 2 0 0"),
+        ("p>q", 1, "3 1 1 1 0 0"),
+        ("$j;", 3, "15 3 0 3 6 0"),
+        ("$j;", 2, "3 2 0 2 5 0"),
+    ]);
+}
+
+#[test]
+fn each_fault() {
+    check(&[
+        ("$DEF,k,<;>;$a,$k;;", "10 17 0 18 18 1", ""),
+        ("$~1;", "11 2 0 2 4 0", ""),
+        ("$DEF,k,<~x>;$k;", "12 15 0 16 13 1", ""),
+        ("$DEF,k,<~>;$k;", "12 14 0 15 12 1", ""),
+        ("$DEF,k,<~<1>>;$k;", "12 17 0 18 15 1", ""),
+        ("$DEF,k,<~1>;$k;", "13 15 0 16 13 1", ""),
+        ("$DEF,k;", "13 7 0 7 10 0", ""),
+        ("$VAL;", "13 5 0 5 8 0", ""),
+        ("$+,x;", "13 5 0 5 8 0", ""),
+        ("$DEF,k,<$j,>;$k;", "14 16 0 20 20 1", ""),
+        ("$;", "15 2 0 2 5 0", ""),
+        ("$VAL,;", "15 6 0 6 9 0", ""),
+        ("$UPDATE,j,x;", "15 12 0 12 15 0", ""),
+        ("$a>", "16 3 0 3 5 0", ""),
+        ("<a", "17 2 1 3 0 0", "a"),
+        ("$a<b", "17 4 0 5 6 0", ""),
+        ("$a", "18 2 0 3 5 0", ""),
+        ("$VAL,DEF;", "19 9 0 9 12 0", ""),
+        ("$UPDATE,+,x;", "19 12 0 12 15 0", ""),
+        ("$DEF,k,<$j;>;$DEF,j,<$UPDATE,k,a;>;$k;", "20 38 0 53 52 2", ""),
+        ("$DEF,k,;$UPDATE,k,x;", "21 20 0 20 20 1", ""),
+        ("$+,x,1;", "22 7 0 7 10 0", ""),
+        ("$Rem,x,0;", "22 9 0 9 12 0", ""),
+        ("$Rem,0,x;", "22 9 0 9 12 0", ""),
+        ("$Quot,1,0;", "23 10 0 10 13 0", ""),
+        ("$+,2147483647,1;", "24 16 0 16 19 0", ""),
+    ]);
+}
+
+#[test]
+fn order_of_checks_at_the_semicolon() {
+    let val = "$DEF,k,abc;$a,$VAL,k;;";
+    check_lent(&[
+        // 10 before the 4 of the own cell: the charge stands at 18 there.
+        ("$DEF,k,<;>;$a,$k;;", 18, 0, "10 17 0 18 18 1"),
+        // The 4 of the own cell before 15, 13 and the built-in's.
+        ("$j;", 5, 0, "4 3 0 3 5 0"),
+        ("$j;", 6, 0, "15 3 0 3 6 0"),
+        ("$VAL;", 7, 0, "4 5 0 5 7 0"),
+        ("$VAL;", 8, 0, "13 5 0 5 8 0"),
+        ("$Rem,1,0;", 11, 0, "4 9 0 9 11 0"),
+        // The built-in's before the 4 or 5 of the result.
+        ("$a,$Rem,1,0;;", 18, 0, "23 12 0 12 18 0"),
+        ("$Rem,1,0;", 12, 0, "23 9 0 9 12 0"),
+        ("$a,$VAL,j;;", 16, 0, "15 10 0 10 16 0"),
+        // The own cell was allowed, the result beside it was not.
+        (val, 23, 0, "4 21 0 21 23 1"),
+        (val, 24, 0, "4 21 0 21 24 1"),
+        (val, 26, 0, "4 21 0 21 24 1"),
+        (val, 27, 0, "15 22 0 22 27 1"),
+        ("$DEF,k,abc;$VAL,k;", 18, 2, "5 18 0 18 18 1"),
+        ("$DEF,k,abc;$VAL,k;", 18, 3, "0 18 3 19 18 1"),
+        ("$-,3,5;", 10, 1, "5 7 0 7 10 0"),
+        ("$-,3,5;", 10, 2, "0 7 2 8 10 0"),
+    ]);
+}
+
+#[test]
+fn order_of_checks_at_the_tilde() {
+    // Cells enough up to the `~`, and none for what it fetches.
+    check_lent(&[
+        ("$a~", 5, 0, "11 3 0 3 5 0"),
+        ("$DEF,k,<~x>;$a,$k;;", 19, 0, "12 18 0 19 19 1"),
+        ("$DEF,k,<~1>;$a,$k;;", 19, 0, "13 18 0 19 19 1"),
+        ("$DEF,k,<~0>;$a,$k;;", 19, 0, "4 18 0 19 19 1"),
+        ("$DEF,k,<~x>;$k;", 13, 0, "12 15 0 16 13 1"),
+        ("$DEF,k,<~1>;$k;", 13, 0, "13 15 0 16 13 1"),
+        ("$DEF,k,<~0>;$k;", 13, 0, "5 15 0 16 13 1"),
+        // A copy goes through whole or not at all.
+        ("$DEF,k,<~1>;$k,abc;", 65_536, 2, "5 19 0 20 17 1"),
+        ("$DEF,k,<~1>;$k,abc;", 65_536, 3, "0 19 3 22 17 1"),
+        ("$DEF,k,<~1>;$a,$k,bcd;;", 25, 0, "4 22 0 23 23 1"),
+    ]);
+}
+
+#[test]
+fn copies_refused() {
+    check_lent(&[
+        ("ab", 0, 1, "5 2 1 2 0 0"),
+        ("a,", 0, 1, "5 2 1 2 0 0"),
+        ("a;", 0, 1, "5 2 1 2 0 0"),
+        ("a~", 0, 1, "5 2 1 2 0 0"),
+        ("a<>", 0, 1, "0 3 1 4 0 0"),
+        ("<<", 0, 0, "5 2 0 2 0 0"),
+        ("$", 3, 0, "4 1 0 1 0 0"),
+        ("$a", 4, 0, "4 2 0 2 4 0"),
+        ("$a,", 5, 0, "4 3 0 3 5 0"),
+        ("$<<", 4, 0, "4 3 0 3 4 0"),
+    ]);
+}
+
+#[test]
+fn commas() {
+    check_outcomes(&[
+        ("a,b", 0, "a,b"),
+        ("$DEF,k,<a,b>;$k;", 0, "a,b"),
+        // On behalf of the name: `$k;` gives the name x and the parameter y.
+        ("$DEF,k,<x,y>;$DEF,x,<[~1]>;$$k;;", 0, "[y]"),
+        // Two bodies deep.
+        ("$DEF,k,<1,2>;$DEF,i,<0$k;3>;$DEF,j,<~2~1>;$j,$i;;", 0, "2301"),
+        // Quoted, fetched or given by VAL a comma does not divide.
+        ("$DEF,j,<[~1]>;$j,<1,2>;", 0, "[1,2]"),
+        ("$DEF,i,<$j,~1;>;$DEF,j,<[~1]>;$i,<1,2>;", 0, "[1,2]"),
+        ("$DEF,k,<1,2>;$DEF,j,<[~1]>;$j,$VAL,k;;", 0, "[1,2]"),
+        // In a body whose value is not collected, a call begun there has its own commas.
+        ("$DEF,k,<a,$j,b;,c>;$DEF,j,<[~1]>;$k;", 0, "a,[b],c"),
+    ]);
+}
+
+#[test]
+fn quotes() {
+    check(&[
+        ("<<a>>", "0 5 3 6 0 0", "<a>"),
+        ("<<<>>>$j", "18 8 4 9 5 0", "<<>>"),
+        ("$DEF,k,<<~1>>;$k;", "0 17 2 23 15 1", "~1"),
+        ("<$j;~1,>", "0 8 6 9 0 0", "$j;~1,"),
+        ("$DEF,k,<<<a>>;>;$k;", "10 19 3 25 17 1", "<a>"),
+    ]);
+    check_outcomes(&[
+        ("$DEF,k,<a<>>;$k;>", 1, "a"),
+        ("$DEF,k,<<$>j<;>>;$k;", 0, "$j;"),
+        ("<<a>", 17, "<a>"),
+    ]);
+}
+
+#[test]
+fn signs_in_the_text() {
+    check(&[
+        ("a;b", "0 3 3 4 0 0", "a;b"),
+        ("~~9", "0 3 3 4 0 0", "~~9"),
+        ("$DEF,k,v;;", "0 10 1 11 12 1", ";"),
+    ]);
+    // After a call has been applied, `;` in the text applies the call around it.
+    check_outcomes(&[("$DEF,k,v;$DEF,v,w;$$k;;", 0, "w"), ("$DEF,k,v;$k;~1", 0, "v~1")]);
+}
+
+#[test]
+fn parameters() {
+    check(&[
+        // Surplus parameters are ignored.
+        ("$DEF,k,v,w;$VAL,k,z;", "0 20 1 21 18 1", "v"),
+        ("$+,1,2,x;", "0 9 1 10 12 0", "3"),
+        ("$DEF,k,<~0~2>;$k,a,b,c;", "0 23 2 27 21 1", "kb"),
+        // A fetched parameter is not scanned again.
+        ("$DEF,k,<~1>;$k,<$j;>;", "0 21 3 24 17 1", "$j;"),
+    ]);
+    // In a list begun in a body, `~` still fetches that body's parameters.
+    check_outcomes(&[("$DEF,j,<[~1]>;$DEF,k,<$j,~2~1;>;$k,a,b;", 0, "[ba]")]);
+}
+
+#[test]
+fn definitions_go_with_the_list() {
+    check(&[
+        // Made in an argument, in DEF's own list, in VAL's and in UPDATE's.
+        ("$DEF,k,;$k,$DEF,m,z;;$m;", "15 24 0 25 23 1", ""),
+        ("$DEF,k$DEF,m,z;,v;$m;", "15 21 0 21 21 1", ""),
+        ("$VAL,k$DEF,k,z;;", "0 16 1 17 21 0", "z"),
+        ("$DEF,k,ab;$UPDATE,k,c$DEF,k,d;;$k;", "0 34 2 38 33 1", "ab"),
+        // Made in a body they stay, but go with the list that the body was read for.
+        ("$DEF,mk,<$DEF,m,z;>;$DEF,k,;$k,$mk;;$m;", "15 39 0 50 45 2", ""),
+    ]);
+    assert_eq!(standing("$DEF,k$DEF,m,z;,v;$m;"), [is("k", "v", 1)]);
+    // A list's definitions go from beneath those of its body.
+    let beneath = "$DEF,a,1;$DEF,mk,<$DEF,b,3;$UPDATE,a,4;>;$mk,$DEF,c,2;;";
+    assert_eq!(standing(beneath)[..1], [is("b", "3", 1)]);
+    assert_eq!(standing(beneath)[2..], [is("a", "4", 1)]);
+}
+
+#[test]
+fn definitions_before_a_refused_scan() {
+    // Refused at DEF's `;`, at the end of a body, and at a `;` whose list has definitions: none is dropped.
+    check_lent(&[
+        ("$DEF,k,v;", 11, 0, "4 9 0 9 11 0"),
+        ("$DEF,k,v;", 12, 0, "0 9 0 10 12 1"),
+    ]);
+    check(&[
+        ("$x,$DEF,m,z;;", "15 13 0 13 18 1", ""),
+        ("$VAL,j$DEF,m,z;;", "15 16 0 16 21 1", ""),
+        ("$DEF,k,<$j>;$k,$DEF,m,z;;", "14 25 0 28 25 2", ""),
+    ]);
+}
+
+#[test]
+fn updates() {
+    assert_eq!(standing("$DEF,k,abcd;$UPDATE,k,x;"), [is("k", "x", 4)]);
+    assert_eq!(
+        standing("$DEF,k,ab;$DEF,k,c;$UPDATE,k,;"),
+        [is("k", "", 1), is("k", "ab", 2)]
+    );
+    check_outcomes(&[
+        // The newest k is not the one whose body is being read.
+        ("$DEF,k,<$DEF,k,ab;$UPDATE,k,cd;$k;>;$k;", 0, "cd"),
+        // A value that is only copied is not a body.
+        ("$DEF,k,ab;$UPDATE,k,$VAL,k;;$k;", 0, "ab"),
+        // The body has been read by the time of the UPDATE.
+        ("$DEF,k,ab;$UPDATE,k,$k;;$k;", 0, "ab"),
+    ]);
+}
+
+/// The charge after each scan.
+fn charges(script: &str) -> Vec<usize> {
+    let mut charges = Vec::new();
+    run_traced(script.as_bytes(), &LENT, &mut |row| charges.push(row.charge));
+    charges
+}
+
+#[test]
+fn charge_rises_and_falls() {
+    // DEF's list of 15 becomes a definition of 9, which UPDATE leaves at 9.
+    let charges = charges("$DEF,k,abcd;$UPDATE,k,x;a");
+    assert_eq!(charges[..13], [4, 5, 6, 7, 8, 9, 10, 11, 12, 13, 14, 9, 13]);
+    assert_eq!(charges[22..], [23, 9, 9, 9]);
+}
+
+#[test]
+fn results_are_charged_before_the_list_goes() {
+    check(&[
+        // Collected: 8 for k, 6 for `$a,`, 10 for VAL's list and 3.
+        ("$DEF,k,abc;$a,$VAL,k;;", "15 22 0 22 27 1", ""),
+        ("$a,$-,3,5;;", "15 11 0 11 18 0", ""),
+        // Not collected.
+        ("$DEF,k,abc;$VAL,k;", "0 18 3 19 18 1", "abc"),
+    ]);
+}
+
+#[test]
+fn built_ins_can_be_hidden() {
+    check_outcomes(&[
+        ("$DEF,VAL,x;$VAL,VAL;", 0, "x"),
+        ("$DEF,+,p;$VAL,+;", 0, "p"),
+        ("$DEF,+,p;$UPDATE,+,q;$+,1,2;", 0, "q"),
+        ("$DEF,DEF,;$DEF,k,v;$k;", 15, ""),
+        ("$+,1,2,$DEF,+,<~1>;;$+,1,2;", 0, "13"),
+        ("$DEF,,e;$;", 0, "e"),
+    ]);
+}
+
+#[test]
+fn paper_examples() {
+    let a = "$DEF,A,<A~1A>;$DEF,B,<B$A,X~1X;B>;$DEF,APA,<P~1~1P>;";
+    let suc = "$DEF,Suc,<$1,2,3,4,5,6,7,8,9,10,$DEF,1,<~>~1;;>;";
+    let cases = [
+        (a, "$A,$A,C;;", "AACAA"),
+        (a, "$B,D;", "BAXDXAB"),
+        (a, "$$A,P;,Y;", "PYYP"),
+        (a, "$B,<$A,X;>;", "BAX$A,X;XAB"),
+        (a, "Q<$>R<;>", "Q$R;"),
+        (suc, "$Suc,3;$Suc,0;$Suc,9;", "4110"),
+    ];
+    for (definitions, script, output) in cases {
+        check_outcomes(&[(&format!("{definitions}{script}"), 0, output)]);
+    }
+}
+
+#[test]
+fn no_end_within_the_bounds() {
+    let none = |script: &str, bounds: Bounds| assert!(substitute(script.as_bytes(), &bounds).is_none(), "{script}");
+    none("$DEF,k,<$k;>;$k;", BOUNDS);
+    none("$DEF,k,<$k,~1~1;>;$k,x;", Bounds { charge: 50, ..BOUNDS });
+    none("aa", Bounds { output: 1, ..BOUNDS });
+    none("aa", Bounds { scans: 2, ..BOUNDS });
+    none("$a", Bounds { depth: 0, ..BOUNDS });
+    let least = Bounds {
+        depth: 1,
+        scans: 22,
+        charge: 16,
+        output: 2,
+    };
+    assert_eq!(substitute(A.as_bytes(), &least), Some(end(A)));
+}
+
+#[test]
+fn depth_is_of_nested_calls() {
+    // `$k;` stands in the list of `$j`, and the body of `k` calls `$i;`: three deep.
+    let script = "$DEF,i,x;$DEF,k,<$i;>;$DEF,j,<~1>;$j,$k;;";
+    assert!(substitute(script.as_bytes(), &Bounds { depth: 2, ..BOUNDS }).is_none());
+    assert_eq!(
+        substitute(script.as_bytes(), &Bounds { depth: 3, ..BOUNDS }),
+        Some(end(script))
+    );
+}
+
+#[test]
+fn traced_run_is_the_run() {
+    let script = "$DEF,k,<p~1>;$k,7;".as_bytes();
+    let mut rows = Vec::new();
+    let end = run_traced(script, &LENT, &mut |row| {
+        rows.push((row.scan, row.handled, row.output.clone()))
+    });
+    assert_eq!(end, run(script, &LENT));
+    assert_eq!(rows.len(), 22);
+    assert_eq!(rows[0], (1, Handled::Byte(b'$'), b"".to_vec()));
+    assert_eq!(rows[9], (10, Handled::Byte(b'~'), b"".to_vec()));
+    assert_eq!(rows[19], (20, Handled::Parameter(b'1'), b"p7".to_vec()));
+    assert_eq!(rows[20], (21, Handled::EndOfBody, b"p7".to_vec()));
+    assert_eq!(rows[21], (22, Handled::EndOfText, b"p7".to_vec()));
+}
+
+#[test]
+fn kinds_of_bytes() {
+    let signs: Vec<u8> = (0..=255u8).filter(|&byte| KINDS[byte as usize] != 0).collect();
+    assert_eq!(signs.len(), 6);
+    let kinds: Vec<u8> = b"$,;~<>".iter().map(|&byte| KINDS[byte as usize]).collect();
+    assert_eq!(kinds, [1, 2, 3, 4, 5, 6]);
+}
+
+#[test]
+fn arithmetic() {
+    use Operation::*;
+    let results = [
+        (Plus, "+5", "-0", "5"),
+        (Plus, "-2147483648", "2147483647", "-1"),
+        (Minus, "0", "0", "0"),
+        (Minus, "-3", "-3", "0"),
+        (Times, "-0", "7", "0"),
+        (Times, "46341", "-46340", "-2147441940"),
+        (Times, "-2147483648", "1", "-2147483648"),
+        (Quot, "-7", "2", "-3"),
+        (Quot, "-1", "2", "0"),
+        (Quot, "7", "-2", "-3"),
+        (Rem, "-7", "2", "-1"),
+        (Rem, "7", "-2", "1"),
+        (Rem, "-2147483648", "-1", "0"),
+        (
+            Plus,
+            "-00000000002147483648",
+            "+000000000000000000000000000000000000001",
+            "-2147483647",
+        ),
+    ];
+    for (operation, left, right, result) in results {
+        let given = reckon(operation, left.as_bytes(), right.as_bytes());
+        assert_eq!(given.as_deref().map(text), Ok(result), "{operation:?} {left} {right}");
+    }
+}
+
+#[test]
+fn arithmetic_refused() {
+    use Operation::*;
+    let refused = [
+        (Plus, "", "1", 22),
+        (Plus, "+", "1", 22),
+        (Plus, "1", "-", 22),
+        (Plus, "--1", "1", 22),
+        (Plus, "1 ", "1", 22),
+        (Plus, "1", "2147483648", 22),
+        (Plus, "-2147483649", "1", 22),
+        (Plus, "99999999999999999999999999", "1", 22),
+        (Quot, "x", "0", 22),
+        (Quot, "0", "0", 23),
+        (Rem, "5", "-0", 23),
+        (Quot, "-2147483648", "-1", 24),
+        (Minus, "-2147483648", "1", 24),
+        (Minus, "0", "-2147483648", 24),
+        (Times, "65536", "32768", 24),
+        (Times, "-2147483648", "-2147483648", 24),
+    ];
+    for (operation, left, right, outcome) in refused {
+        let given = reckon(operation, left.as_bytes(), right.as_bytes());
+        assert_eq!(given, Err(outcome), "{operation:?} {left} {right}");
+    }
+}

@@ -1,0 +1,45 @@
+//! What a run comes to, in document 01's words.
+use std::fmt;
+
+/// The six numbers that a run reports, in document 01's order.
+#[repr(C)]
+#[derive(Clone, Copy, Debug, PartialEq, Eq)]
+pub struct Report {
+    pub outcome: u64,
+    pub read: u64,
+    pub written: u64,
+    pub scans: u64,
+    pub most: u64,
+    pub live: u64,
+}
+
+/// "the six report values in the order above, decimal, single spaces"
+impl fmt::Display for Report {
+    fn fmt(&self, to: &mut fmt::Formatter) -> fmt::Result {
+        let Report {
+            outcome,
+            read,
+            written,
+            scans,
+            most,
+            live,
+        } = self;
+        write!(to, "{outcome} {read} {written} {scans} {most} {live}")
+    }
+}
+
+/// A definition that stands: its name, its value now, and the length of the value that it was defined with.
+#[derive(Clone, Debug, PartialEq, Eq)]
+pub struct Standing {
+    pub name: Vec<u8>,
+    pub value: Vec<u8>,
+    pub defined: usize,
+}
+
+/// The report, the bytes written, and the definitions standing, newest first, built-ins aside.
+#[derive(Clone, Debug, PartialEq, Eq)]
+pub struct End {
+    pub report: Report,
+    pub output: Vec<u8>,
+    pub standing: Vec<Standing>,
+}

@@ -1,0 +1,548 @@
+//! The scanning machine of document 01: "What a run reports", "One scan" and "Charge".
+//! Its lists grow as they please; the charge is summed anew from them whenever it is needed.
+use crate::arithmetic::{self, Operation};
+use crate::ends::{End, Report, Standing};
+use crate::signs::{self, BuiltIn};
+use std::fmt;
+use std::rc::Rc;
+
+/// What a run is lent beside its text.
+#[derive(Clone, Copy, Debug)]
+pub struct Lent {
+    pub cells: usize,
+    pub output: usize,
+    pub allowance: u64,
+}
+
+/// A run with these lent, to its end.
+pub fn run(text: &[u8], lent: &Lent) -> End {
+    to_the_end(text, lent, |machine| machine.scan())
+}
+
+/// The same run; `each` is shown how it stands after each scan, a refused one included.
+pub fn run_traced(text: &[u8], lent: &Lent, each: &mut dyn FnMut(&Row)) -> End {
+    to_the_end(text, lent, |machine| {
+        let handled = machine.due();
+        let scanned = machine.scan();
+        each(&machine.row(handled));
+        scanned
+    })
+}
+
+/// How a run stands after a scan.
+#[derive(Clone, Debug)]
+pub struct Row {
+    pub scan: u64,
+    pub handled: Handled,
+    /// The calls being collected, outermost first, each as it would be written.
+    pub calls: Vec<Vec<u8>>,
+    /// The bodies being read, outermost first: the name of the call and what remains to be read.
+    pub bodies: Vec<(Vec<u8>, Vec<u8>)>,
+    pub output: Vec<u8>,
+    pub charge: usize,
+}
+
+/// "It handles one byte, a `~` with its digit in a body, the end of a body, or the end of the text."
+#[derive(Clone, Copy, Debug, PartialEq, Eq)]
+pub enum Handled {
+    Byte(u8),
+    Parameter(u8),
+    EndOfBody,
+    EndOfText,
+}
+
+impl fmt::Display for Handled {
+    fn fmt(&self, to: &mut fmt::Formatter) -> fmt::Result {
+        match *self {
+            Handled::Byte(byte) => write!(to, "{}", char::from(byte)),
+            Handled::Parameter(digit) => write!(to, "~{}", char::from(digit)),
+            Handled::EndOfBody => to.write_str("end of body"),
+            Handled::EndOfText => to.write_str("end of text"),
+        }
+    }
+}
+
+/// A scan gives the next standing, or the outcome that ends the run.
+type Scanned = Result<(), u64>;
+
+fn to_the_end(text: &[u8], lent: &Lent, mut one_scan: impl FnMut(&mut Machine) -> Scanned) -> End {
+    let mut machine = Machine::fresh(text, lent);
+    if [text.len(), lent.cells, lent.output]
+        .iter()
+        .any(|&length| length > signs::LIMIT)
+    {
+        return machine.end(2);
+    }
+    loop {
+        // 3: "a further scan is due and the allowance has been used".
+        if machine.scans == lent.allowance {
+            return machine.end(3);
+        }
+        if let Err(outcome) = one_scan(&mut machine) {
+            return machine.end(outcome);
+        }
+    }
+}
+
+/// A live definition. One scan makes at most one, so the scan tells it from all others.
+struct Definition {
+    name: Vec<u8>,
+    value: Rc<[u8]>,
+    defined: usize,
+    made: u64,
+}
+
+/// A call: the scan that opened it, the bytes of its name and parameters, and where commas have ended arguments.
+struct Call {
+    opened: u64,
+    bytes: Vec<u8>,
+    commas: Vec<usize>,
+}
+
+/// A call that has been applied: the scan that did so, and the body being read.
+struct Body {
+    call: Call,
+    applied: u64,
+    definition: u64,
+    bytes: Rc<[u8]>,
+    at: usize,
+}
+
+struct Machine<'a> {
+    text: &'a [u8],
+    lent: &'a Lent,
+    read: usize,
+    /// How deep the byte at hand lies in quotes. One count serves text and bodies: inside quotes only quotes are
+    /// recognised, so no body begins there, and a body never ends inside quotes.
+    quotes: usize,
+    /// The open calls, which are collected, innermost last.
+    calls: Vec<Call>,
+    /// The bodies being read, innermost last.
+    bodies: Vec<Body>,
+    /// The live definitions, newest last.
+    definitions: Vec<Definition>,
+    output: Vec<u8>,
+    scans: u64,
+    most: usize,
+}
+
+impl Call {
+    /// "An open call is charged 4, each comma that ends an argument 1, each collected byte 1".
+    fn charge(&self) -> usize {
+        4 + self.commas.len() + self.bytes.len()
+    }
+
+    /// An item of the list: 0 is the name, and the others are the parameters.
+    fn item(&self, number: usize) -> Option<&[u8]> {
+        let from = match number {
+            0 => 0,
+            _ => *self.commas.get(number - 1)?,
+        };
+        let to = self.commas.get(number).copied().unwrap_or(self.bytes.len());
+        Some(&self.bytes[from..to])
+    }
+}
+
+impl Definition {
+    /// "A live definition is charged name length + defined value length + 4."
+    fn charge(&self) -> usize {
+        self.name.len() + self.defined + 4
+    }
+}
+
+impl<'a> Machine<'a> {
+    fn fresh(text: &'a [u8], lent: &'a Lent) -> Self {
+        Machine {
+            text,
+            lent,
+            read: 0,
+            quotes: 0,
+            calls: Vec::new(),
+            bodies: Vec::new(),
+            definitions: Vec::new(),
+            output: Vec::new(),
+            scans: 0,
+            most: 0,
+        }
+    }
+
+    /// One scan. Nothing that stays is changed before the last check that may refuse it, so the definitions at the
+    /// end are those "standing when the run ended, before a refused scan".
+    fn scan(&mut self) -> Scanned {
+        // "The byte at which a run is refused counts as read, and that scan counts."
+        self.scans += 1;
+        let Some(byte) = self.take() else {
+            return if self.bodies.is_empty() {
+                self.end_of_text()
+            } else {
+                self.end_of_body()
+            };
+        };
+        if self.quotes > 0 {
+            return self.quoted(byte);
+        }
+        match signs::kind(byte) {
+            signs::CALL => self.open(),
+            signs::COMMA => self.comma(byte),
+            signs::APPLY => self.apply(byte),
+            signs::FETCH => self.fetch(byte),
+            signs::QUOTE => {
+                self.quotes = 1;
+                Ok(())
+            }
+            signs::UNQUOTE => self.bare_unquote(),
+            _ => self.copy(&[byte]),
+        }
+    }
+
+    /// "Bytes come from the innermost body being read, else from the text."
+    fn take(&mut self) -> Option<u8> {
+        let (bytes, at) = match self.bodies.last_mut() {
+            Some(body) => (&*body.bytes, &mut body.at),
+            None => (self.text, &mut self.read),
+        };
+        let byte = *bytes.get(*at)?;
+        *at += 1;
+        Some(byte)
+    }
+
+    /// "The outermost pair is dropped, inner ones are copied. Inside, only quotes are recognised."
+    fn quoted(&mut self, byte: u8) -> Scanned {
+        match signs::kind(byte) {
+            signs::QUOTE => self.quotes += 1,
+            signs::UNQUOTE => self.quotes -= 1,
+            _ => {}
+        }
+        if self.quotes == 0 {
+            return Ok(());
+        }
+        self.copy(&[byte])
+    }
+
+    /// "`$` opens a call with an empty name."
+    fn open(&mut self) -> Scanned {
+        self.allow(4)?;
+        self.calls.push(Call {
+            opened: self.scans,
+            bytes: Vec::new(),
+            commas: Vec::new(),
+        });
+        Ok(())
+    }
+
+    /// A comma "ends the argument in hand of the innermost open call, also when the comma stands in a body read on
+    /// behalf of that argument. With no open call it is copied."
+    fn comma(&mut self, byte: u8) -> Scanned {
+        if self.calls.is_empty() {
+            return self.copy(&[byte]);
+        }
+        self.allow(1)?;
+        let innermost = self.calls.last_mut().expect("an open call");
+        innermost.commas.push(innermost.bytes.len());
+        Ok(())
+    }
+
+    /// `;`. Checks: "10, 4 for its own cell, 15, 13, then the built-in's, then 4, then 5".
+    fn apply(&mut self, byte: u8) -> Scanned {
+        if !self.bodies.is_empty() && !self.call_begun_in_body() {
+            return Err(10);
+        }
+        if self.calls.is_empty() {
+            return self.copy(&[byte]);
+        }
+        // Charged "1 before the name is looked up", so that "most" has it though the name be unknown.
+        self.allow(1)?;
+        match self.found(0)? {
+            Found::Definition(index) => self.begin_body(index),
+            Found::BuiltIn(built_in) => self.act(built_in),
+        }
+    }
+
+    /// `~`. Checks: "11, 12, 13, 4, 5".
+    fn fetch(&mut self, byte: u8) -> Scanned {
+        let Some(body) = self.bodies.last_mut() else {
+            // "In the text, with no open call, `~` is copied as a plain byte."
+            return if self.calls.is_empty() {
+                self.copy(&[byte])
+            } else {
+                Err(11)
+            };
+        };
+        let digit = body
+            .bytes
+            .get(body.at)
+            .copied()
+            .filter(u8::is_ascii_digit)
+            .ok_or(12u64)?;
+        body.at += 1;
+        let parameter = body.call.item(usize::from(digit - b'0')).ok_or(13u64)?.to_vec();
+        self.copy(&parameter)
+    }
+
+    /// An unquoted `>`, which only the text can show.
+    fn bare_unquote(&mut self) -> Scanned {
+        assert!(self.bodies.is_empty(), "a body never shows an unquoted >");
+        Err(if self.calls.is_empty() { 1 } else { 16 })
+    }
+
+    fn end_of_text(&mut self) -> Scanned {
+        // 17 is "before 18".
+        Err(match (self.quotes, self.calls.len()) {
+            (0, 0) => 0,
+            (0, _) => 18,
+            _ => 17,
+        })
+    }
+
+    fn end_of_body(&mut self) -> Scanned {
+        assert!(self.quotes == 0, "a body never ends inside quotes");
+        if self.call_begun_in_body() {
+            return Err(14);
+        }
+        let body = self.bodies.pop().expect("the body that ended");
+        self.end_list(body.call, body.applied);
+        Ok(())
+    }
+
+    /// Whether a call begun in the innermost body is still open. Calls begun in a body within it are not, since
+    /// that body would have ended inside them.
+    fn call_begun_in_body(&self) -> bool {
+        match (self.calls.last(), self.bodies.last()) {
+            (Some(call), Some(body)) => call.opened > body.applied,
+            _ => false,
+        }
+    }
+
+    /// Bytes "go to the argument being collected by the innermost open call, else to the output", whole or not.
+    fn copy(&mut self, bytes: &[u8]) -> Scanned {
+        if self.calls.is_empty() {
+            self.room(bytes.len())?;
+        } else {
+            self.allow(bytes.len())?;
+        }
+        self.put(bytes);
+        Ok(())
+    }
+
+    fn put(&mut self, bytes: &[u8]) {
+        let to = match self.calls.last_mut() {
+            Some(call) => &mut call.bytes,
+            None => &mut self.output,
+        };
+        to.extend_from_slice(bytes);
+    }
+
+    /// 4: "the charge would exceed the cells lent". "Most" is the highest charge that is allowed here.
+    fn allow(&mut self, more: usize) -> Scanned {
+        let charge = self.charge() + more;
+        if charge > self.lent.cells {
+            return Err(4);
+        }
+        self.most = self.most.max(charge);
+        Ok(())
+    }
+
+    /// 5: "the bytes of this scan would exceed the output lent".
+    fn room(&self, more: usize) -> Scanned {
+        if self.output.len() + more > self.lent.output {
+            return Err(5);
+        }
+        Ok(())
+    }
+
+    /// An applied call has the cell of its `;` beside its list. "A list's charge ends with its call", hence not
+    /// before its body ends.
+    fn charge(&self) -> usize {
+        let calls: usize = self.calls.iter().map(Call::charge).sum();
+        let bodies: usize = self.bodies.iter().map(|body| body.call.charge() + 1).sum();
+        let definitions: usize = self.definitions.iter().map(Definition::charge).sum();
+        calls + bodies + definitions
+    }
+
+    /// "The list of name and parameters goes, with every definition made while it was collected."
+    fn end_list(&mut self, call: Call, applied: u64) {
+        self.definitions
+            .retain(|definition| definition.made < call.opened || definition.made > applied);
+    }
+}
+
+/// What a name stands for: the index of the newest definition, else a built-in.
+enum Found {
+    Definition(usize),
+    BuiltIn(BuiltIn),
+}
+
+/// The `;` scan, its own cell allowed.
+impl Machine<'_> {
+    /// What an item of the list names; 15 if nothing. A definition hides a built-in of its name, as "the newest
+    /// definition with that name is taken" and the built-ins are what a run starts with.
+    fn found(&self, number: usize) -> Result<Found, u64> {
+        let name = self.item(number);
+        if let Some(index) = self.definitions.iter().rposition(|definition| definition.name == name) {
+            return Ok(Found::Definition(index));
+        }
+        let built_in = signs::BUILT_INS.iter().find(|built_in| built_in.0 == name);
+        built_in.map(|built_in| Found::BuiltIn(built_in.1)).ok_or(15)
+    }
+
+    fn item(&self, number: usize) -> &[u8] {
+        let call = self.calls.last().expect("the call applied");
+        call.item(number).expect("an item that was supplied")
+    }
+
+    /// "Its body is read from the next scan."
+    fn begin_body(&mut self, index: usize) -> Scanned {
+        let call = self.calls.pop().expect("the call applied");
+        let Definition { made, ref value, .. } = self.definitions[index];
+        let bytes = Rc::clone(value);
+        self.bodies.push(Body {
+            call,
+            applied: self.scans,
+            definition: made,
+            bytes,
+            at: 0,
+        });
+        Ok(())
+    }
+
+    fn act(&mut self, built_in: BuiltIn) -> Scanned {
+        // As many parameters as commas were supplied. "Surplus parameters are ignored."
+        let supplied = self.calls.last().map_or(0, |call| call.commas.len());
+        if supplied < signs::parameters_needed(built_in) {
+            return Err(13);
+        }
+        match built_in {
+            BuiltIn::Def => self.def(),
+            BuiltIn::Val => self.val(),
+            BuiltIn::Update => self.update(),
+            BuiltIn::Arithmetic(operation) => self.reckon(operation),
+        }
+    }
+
+    /// "DEF's list is exchanged for the definition", which is at least six cells cheaper: the list has the cells of
+    /// `$DEF`, two commas and `;` beside name and value. So there is no 4 here and no new highest.
+    fn def(&mut self) -> Scanned {
+        let name = self.item(1).to_vec();
+        let value: Rc<[u8]> = Rc::from(self.item(2));
+        self.end_built_in();
+        self.definitions.push(Definition {
+            name,
+            defined: value.len(),
+            value,
+            made: self.scans,
+        });
+        Ok(())
+    }
+
+    /// Checks: 15, 19.
+    fn val(&mut self) -> Scanned {
+        let Found::Definition(index) = self.found(1)? else {
+            return Err(19);
+        };
+        let value = Rc::clone(&self.definitions[index].value);
+        self.give(&value)
+    }
+
+    /// Checks: "15 for the name given, 19, 20, 21". The defined length stays, and the charge with it.
+    fn update(&mut self) -> Scanned {
+        let Found::Definition(index) = self.found(1)? else {
+            return Err(19);
+        };
+        // Of all bodies under way: "the innermost body being read" is one of those being read.
+        let made = self.definitions[index].made;
+        if self.bodies.iter().any(|body| body.definition == made) {
+            return Err(20);
+        }
+        let value: Rc<[u8]> = Rc::from(self.item(2));
+        if value.len() > self.definitions[index].defined {
+            return Err(21);
+        }
+        self.definitions[index].value = value;
+        self.end_built_in();
+        Ok(())
+    }
+
+    fn reckon(&mut self, operation: Operation) -> Scanned {
+        let result = arithmetic::reckon(operation, self.item(1), self.item(2))?;
+        self.give(&result)
+    }
+
+    /// "A VAL or arithmetic result is charged before its list goes, if it is collected": beside the cell of `;`,
+    /// and by a call outside the one that ends here.
+    fn give(&mut self, result: &[u8]) -> Scanned {
+        if self.calls.len() > 1 {
+            self.allow(1 + result.len())?;
+        } else {
+            self.room(result.len())?;
+        }
+        self.end_built_in();
+        self.put(result);
+        Ok(())
+    }
+
+    /// "Built-ins act within the `;` scan; then their call ends as above".
+    fn end_built_in(&mut self) {
+        let call = self.calls.pop().expect("the call applied");
+        self.end_list(call, self.scans);
+    }
+}
+
+/// What is told of a run.
+impl Machine<'_> {
+    fn end(self, outcome: u64) -> End {
+        let report = Report {
+            outcome,
+            read: self.read as u64,
+            written: self.output.len() as u64,
+            scans: self.scans,
+            most: self.most as u64,
+            live: self.definitions.len() as u64,
+        };
+        let standing = self.definitions.into_iter().rev().map(|definition| Standing {
+            name: definition.name,
+            value: definition.value.to_vec(),
+            defined: definition.defined,
+        });
+        End {
+            report,
+            output: self.output,
+            standing: standing.collect(),
+        }
+    }
+
+    /// What the next scan will handle.
+    fn due(&self) -> Handled {
+        let Some(body) = self.bodies.last() else {
+            return self
+                .text
+                .get(self.read)
+                .map_or(Handled::EndOfText, |&byte| Handled::Byte(byte));
+        };
+        match body.bytes[body.at..] {
+            [] => Handled::EndOfBody,
+            [byte, digit, ..] if self.quotes == 0 && signs::kind(byte) == signs::FETCH && digit.is_ascii_digit() => {
+                Handled::Parameter(digit)
+            }
+            [byte, ..] => Handled::Byte(byte),
+        }
+    }
+
+    fn row(&self, handled: Handled) -> Row {
+        let written = |call: &Call| {
+            let items: Vec<&[u8]> = (0..).map_while(|number| call.item(number)).collect();
+            [b"$", items.join(&b","[..]).as_slice()].concat()
+        };
+        let body = |body: &Body| {
+            let name = body.call.item(0).expect("a name");
+            (name.to_vec(), body.bytes[body.at..].to_vec())
+        };
+        Row {
+            scan: self.scans,
+            handled,
+            calls: self.calls.iter().map(written).collect(),
+            bodies: self.bodies.iter().map(body).collect(),
+            output: self.output.clone(),
+            charge: self.charge(),
+        }
+    }
+}
