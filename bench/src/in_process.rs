@@ -1,5 +1,5 @@
 //! Library and reference in one process, each run checked.
-use crate::library::{Memory, ALLOWANCE, CELLS, OUTPUT};
+use crate::library::Memory;
 use crate::markdown::{grouped, ratio, Table};
 use crate::timing::{best, mean, timed, Contender};
 use crate::workloads::Workload;
@@ -65,14 +65,7 @@ impl<'a> Work<'a> {
 }
 
 fn reference_end(workload: &Workload) -> End {
-    scanning::run(
-        workload.gpm.as_bytes(),
-        &Lent {
-            cells: CELLS,
-            output: OUTPUT,
-            allowance: ALLOWANCE,
-        },
-    )
+    scanning::run(workload.gpm.as_bytes(), &Lent::PROGRAM)
 }
 
 pub fn compare(workloads: &[Workload], rounds: usize) -> Vec<Pair> {

@@ -1,10 +1,6 @@
 //! The product, called as C calls it.
 use reference::ends::Report;
-
-/// What the program `gpm` lends to a run.
-pub const CELLS: usize = 16_384;
-pub const OUTPUT: usize = 65_536;
-pub const ALLOWANCE: u64 = 10_000_000;
+use reference::scanning::Lent;
 
 #[link(name = "expander", kind = "static")]
 extern "C" {
@@ -19,7 +15,7 @@ extern "C" {
     ) -> Report;
 }
 
-/// Memory that is lent to one run after another.
+/// What the program `gpm` lends, for one run after another.
 pub struct Memory {
     cells: Vec<u32>,
     output: Vec<u8>,
@@ -28,8 +24,8 @@ pub struct Memory {
 impl Memory {
     pub fn new() -> Memory {
         Memory {
-            cells: vec![0; CELLS],
-            output: vec![0; OUTPUT],
+            cells: vec![0; Lent::PROGRAM.cells],
+            output: vec![0; Lent::PROGRAM.output],
         }
     }
 
@@ -48,7 +44,7 @@ impl Memory {
                 self.cells.len(),
                 self.output.as_mut_ptr(),
                 self.output.len(),
-                ALLOWANCE,
+                Lent::PROGRAM.allowance,
             )
         }
     }

@@ -5,12 +5,6 @@ use crate::scanning::{run, run_traced, Handled, Lent};
 use crate::signs::{KINDS, LIMIT};
 use crate::substitution::{substitute, Bounds};
 
-const LENT: Lent = Lent {
-    cells: 16_384,
-    output: 65_536,
-    allowance: 10_000_000,
-};
-
 const BOUNDS: Bounds = Bounds {
     depth: 100,
     scans: 1_000_000,
@@ -22,10 +16,7 @@ fn line(end: &End) -> String {
     let report = &end.report;
     assert_eq!(report.written, end.output.len() as u64);
     assert_eq!(report.live, end.standing.len() as u64);
-    format!(
-        "{} {} {} {} {} {}",
-        report.outcome, report.read, report.written, report.scans, report.most, report.live
-    )
+    report.to_string()
 }
 
 fn text(bytes: &[u8]) -> &str {
@@ -34,7 +25,7 @@ fn text(bytes: &[u8]) -> &str {
 
 /// The end, which both halves give.
 fn end(script: &str) -> End {
-    let scanned = run(script.as_bytes(), &LENT);
+    let scanned = run(script.as_bytes(), &Lent::PROGRAM);
     assert_eq!(
         substitute(script.as_bytes(), &BOUNDS).as_ref(),
         Some(&scanned),
@@ -62,7 +53,11 @@ fn check_outcomes(cases: &[(&str, u64, &str)]) {
 /// Each script with the cells and the output lent, and its report; by scanning alone.
 fn check_lent(cases: &[(&str, usize, usize, &str)]) {
     for &(script, cells, output, report) in cases {
-        let lent = Lent { cells, output, ..LENT };
+        let lent = Lent {
+            cells,
+            output,
+            ..Lent::PROGRAM
+        };
         assert_eq!(line(&run(script.as_bytes(), &lent)), report, "{script} {lent:?}");
     }
 }
@@ -70,7 +65,10 @@ fn check_lent(cases: &[(&str, usize, usize, &str)]) {
 /// Each script with the allowance and its report; by scanning alone.
 fn check_allowance(cases: &[(&str, u64, &str)]) {
     for &(script, allowance, report) in cases {
-        let lent = Lent { allowance, ..LENT };
+        let lent = Lent {
+            allowance,
+            ..Lent::PROGRAM
+        };
         assert_eq!(line(&run(script.as_bytes(), &lent)), report, "{script} {lent:?}");
     }
 }
@@ -360,7 +358,7 @@ fn updates() {
 /// The charge after each scan.
 fn charges(script: &str) -> Vec<usize> {
     let mut charges = Vec::new();
-    run_traced(script.as_bytes(), &LENT, &mut |row| charges.push(row.charge));
+    run_traced(script.as_bytes(), &Lent::PROGRAM, &mut |row| charges.push(row.charge));
     charges
 }
 
@@ -444,10 +442,10 @@ fn depth_is_of_nested_calls() {
 fn traced_run_is_the_run() {
     let script = "$DEF,k,<p~1>;$k,7;".as_bytes();
     let mut rows = Vec::new();
-    let end = run_traced(script, &LENT, &mut |row| {
+    let end = run_traced(script, &Lent::PROGRAM, &mut |row| {
         rows.push((row.scan, row.handled, row.output.clone()))
     });
-    assert_eq!(end, run(script, &LENT));
+    assert_eq!(end, run(script, &Lent::PROGRAM));
     assert_eq!(rows.len(), 22);
     assert_eq!(rows[0], (1, Handled::Byte(b'$'), b"".to_vec()));
     assert_eq!(rows[9], (10, Handled::Byte(b'~'), b"".to_vec()));

@@ -8,12 +8,6 @@ use std::process::ExitCode;
 
 const USAGE: &str = "usage: reference scan [CELLS OUTPUT ALLOWANCE] | substitute | trace   (script on standard input)";
 
-const LENT: Lent = Lent {
-    cells: 16_384,
-    output: 65_536,
-    allowance: 10_000_000,
-};
-
 /// Far beyond what a run is lent, so that what is given up has no end that a run could come to.
 const BOUNDS: Bounds = Bounds {
     depth: 100_000,
@@ -29,7 +23,7 @@ fn main() -> ExitCode {
     let arguments: Vec<String> = std::env::args().skip(1).collect();
     let arguments: Vec<&str> = arguments.iter().map(String::as_str).collect();
     let done = match arguments[..] {
-        ["scan"] => scan(&LENT),
+        ["scan"] => scan(&Lent::PROGRAM),
         ["scan", cells, output, allowance] => match lent(cells, output, allowance) {
             Some(lent) => scan(&lent),
             None => return usage(),
@@ -75,7 +69,7 @@ fn substitute() -> io::Result<()> {
     let text = script()?;
     if text.len() > LIMIT {
         // Substitution has no outcome 2: the program reports it, as it does for a run, and with all counts 0.
-        return tell(&scanning::run(&text, &LENT));
+        return tell(&scanning::run(&text, &Lent::PROGRAM));
     }
     let value = std::thread::Builder::new().stack_size(STACK);
     let value = value.spawn(move || substitution::substitute(&text, &BOUNDS))?;
@@ -106,7 +100,7 @@ fn trace() -> io::Result<()> {
     writeln!(to, "| scan | byte | open calls | bodies | output | charge |")?;
     writeln!(to, "|---:|---|---|---|---|---:|")?;
     let mut written = Ok(());
-    let end = scanning::run_traced(&text, &LENT, &mut |row| {
+    let end = scanning::run_traced(&text, &Lent::PROGRAM, &mut |row| {
         if written.is_ok() {
             written = writeln!(to, "{}", table_row(row));
         }

@@ -14,6 +14,15 @@ pub struct Lent {
     pub allowance: u64,
 }
 
+impl Lent {
+    /// What the program lends: "16,384 cells, 65,536 bytes of output and 10,000,000 scans".
+    pub const PROGRAM: Lent = Lent {
+        cells: 16_384,
+        output: 65_536,
+        allowance: 10_000_000,
+    };
+}
+
 /// A run with these lent, to its end.
 pub fn run(text: &[u8], lent: &Lent) -> End {
     to_the_end(text, lent, |machine| machine.scan())
