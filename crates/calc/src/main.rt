@@ -1,8 +1,15 @@
-// Arithmetic by lines: reads OPERATION,LEFT,RIGHT from each line of the standard input and writes the outcome and the
+// Arithmetic by lines: reads OPERATION,FIRST,SECOND from each line of the standard input and writes the outcome and the
 // result. A line that names no operation, or lacks a part, is answered by a question mark.
 use decimal::operations::Answer;
+use decimal::operations::Operation;
 ghost use Prim.Native.Nat.{_+_, _≤_, _<_};
 ghost use lib.ListN.{length};
+
+// The operation that has a name, or that none has it.
+enum Named {
+    Known(Operation),
+    Unknown,
+}
 
 fn main() {
     let mut text = io::large_buffer();
@@ -21,67 +28,57 @@ fn answer_lines(text: &[u8]) {
 fn answer_first(text: &[u8]) -> usize
     ensures { λ r. ⌜ (0 < r) × (r ≤ length (now (text .entry)) + 1) ⌝ }
 {
-    let end = find(text, b'\n');
+    let end = bytes::scan::find(text, 0, text.len(), b'\n');
     answer_line(&text[0..end]);
     io::write_all(1, b"\n");
     end + 1
 }
 
-// The position of the first such byte, or the length where there is none.
-fn find(text: &[u8], byte: u8) -> usize
-    ensures { λ r. ⌜ r ≤ length (now (text .entry)) ⌝ }
-{
-    let mut at = 0;
-    while at < text.len() {
-        if text[at] == byte {
-            return at;
-        }
-        at += 1;
-    }
-    at
-}
-
 fn answer_line(line: &[u8]) {
-    let first = find(line, b',');
-    if first >= line.len() {
+    let name_end = bytes::scan::find(line, 0, line.len(), b',');
+    if name_end >= line.len() {
         io::write_all(1, b"?");
         return;
     }
-    let operands = &line[first + 1..];
-    let second = find(operands, b',');
-    if second >= operands.len() {
+    let operands = &line[name_end + 1..];
+    let first_end = bytes::scan::find(operands, 0, operands.len(), b',');
+    if first_end >= operands.len() {
         io::write_all(1, b"?");
         return;
     }
     calculate(
-        &line[0..first],
-        &operands[0..second],
-        &operands[second + 1..],
+        &line[0..name_end],
+        &operands[0..first_end],
+        &operands[first_end + 1..],
     );
 }
 
-fn calculate(name: &[u8], left: &[u8], right: &[u8]) {
-    if check::same(name, b"+") {
-        write_answer(decimal::sum(left, right));
+fn calculate(name: &[u8], first: &[u8], second: &[u8]) {
+    let Named::Known(operation) = operation(name) else {
+        io::write_all(1, b"?");
         return;
+    };
+    write_answer(decimal::calculate(operation, first, second));
+}
+
+// The operation that has a name.
+fn operation(name: &[u8]) -> Named {
+    if check::same(name, b"+") {
+        return Named::Known(Operation::Sum);
     }
     if check::same(name, b"-") {
-        write_answer(decimal::difference(left, right));
-        return;
+        return Named::Known(Operation::Difference);
     }
     if check::same(name, b"*") {
-        write_answer(decimal::product(left, right));
-        return;
+        return Named::Known(Operation::Product);
     }
     if check::same(name, b"Quot") {
-        write_answer(decimal::quotient(left, right));
-        return;
+        return Named::Known(Operation::Quotient);
     }
     if check::same(name, b"Rem") {
-        write_answer(decimal::remainder(left, right));
-        return;
+        return Named::Known(Operation::Remainder);
     }
-    io::write_all(1, b"?");
+    Named::Unknown
 }
 
 fn write_answer(answer: Answer) {

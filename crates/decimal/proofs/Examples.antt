@@ -14,8 +14,8 @@ use Rattle.decimal.specs.Arithmetic.{Result, number, refused, calculated
 -- one case
 record Case : Type 0 where
   operation : Operation
-  left : List ℕ
-  right : List ℕ
+  first : List ℕ
+  second : List ℕ
   outcome : ℕ
   text : List ℕ
 
@@ -38,7 +38,7 @@ same (a ∷ s) (b ∷ t) = eqb a b && same s t
 
 -- a case is answered as it says
 right? : Case → Bool
-right? c = let r = calculated (c .operation) (c .left) (c .right) in eqb (outcomeOf r) (c .outcome) && same (textOf r) (c .text)
+right? c = let r = calculated (c .operation) (c .first) (c .second) in eqb (outcomeOf r) (c .outcome) && same (textOf r) (c .text)
 
 -- the cases that are answered otherwise
 failing : List Case → List Case
@@ -47,11 +47,11 @@ failing (c ∷ cs) = cond (right? c) (failing cs) (c ∷ failing cs)
 
 -- a case with a number, by its text
 gives : Operation → List ℕ → List ℕ → List ℕ → Case
-gives op left right text = record { operation = op; left = left; right = right; outcome = 0; text = text }
+gives op first second text = record { operation = op; first = first; second = second; outcome = 0; text = text }
 
 -- a case that is refused
 refuses : Operation → List ℕ → List ℕ → ℕ → Case
-refuses op left right outcome = record { operation = op; left = left; right = right; outcome = outcome; text = [] }
+refuses op first second outcome = record { operation = op; first = first; second = second; outcome = outcome; text = [] }
 
 -- 2147483648
 above : List ℕ

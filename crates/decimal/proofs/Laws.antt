@@ -162,5 +162,5 @@ operands-in op (some a) none z e = absurd (no-number 22 z e)
 operands-in op (some a) (some b) z e = numbers-in (divides op && isZero b) (exact op a b) z e
 
 -- every result is in range
-pub result-in-range : (op : Operation) (left right : List ℕ) (z : ℤ) → calculated op left right ≡ number z → T (inRange z)
-result-in-range op left right z e = operands-in op (operand left) (operand right) z e
+pub result-in-range : (op : Operation) (first second : List ℕ) (z : ℤ) → calculated op first second ≡ number z → T (inRange z)
+result-in-range op first second z e = operands-in op (operand first) (operand second) z e

@@ -101,6 +101,6 @@ number-operand none = refl
 number-operand (some z) = refl
 
 -- so an operation on two that were read is the operation on the texts
-pub of-read : (op : Operation) {l r : Operand} (left right : List ℕ) → l ≡ operandOf (operand left) → r ≡ operandOf (operand right)
-    → ofOperands op (numberOf l) (numberOf r) ≡ calculated op left right
-of-read op left right e f = rw (e, f, number-operand (operand left), number-operand (operand right))
+pub of-read : (op : Operation) {l r : Operand} (first second : List ℕ) → l ≡ operandOf (operand first) → r ≡ operandOf (operand second)
+    → ofOperands op (numberOf l) (numberOf r) ≡ calculated op first second
+of-read op first second e f = rw (e, f, number-operand (operand first), number-operand (operand second))

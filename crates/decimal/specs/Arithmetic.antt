@@ -61,10 +61,10 @@ ofNumbers op a b = cond (divides op && isZero b) (refused divisorZero) (ranged (
 
 -- "First operand's 22, second's 22, 23, 24."
 abbrev pub ofOperands : Operation → Option ℤ → Option ℤ → Result
-ofOperands op none right = refused notANumber
+ofOperands op none second = refused notANumber
 ofOperands op (some a) none = refused notANumber
 ofOperands op (some a) (some b) = ofNumbers op a b
 
 -- the operation on two texts
 abbrev pub calculated : Operation → List ℕ → List ℕ → Result
-calculated op left right = ofOperands op (operand left) (operand right)
+calculated op first second = ofOperands op (operand first) (operand second)

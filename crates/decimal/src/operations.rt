@@ -22,27 +22,27 @@ pub struct Answer {
 
 impl Operation {
     // "First operand's 22, second's 22, 23, 24."
-    pub fn of(self, left: Operand, right: Operand) -> Answer
-        ensures { λ r. ⌜ r ≡ answerOf (ofOperands self (numberOf left) (numberOf right)) ⌝ }
+    pub fn of(self, first: Operand, second: Operand) -> Answer
+        ensures { λ r. ⌜ r ≡ answerOf (ofOperands self (numberOf first) (numberOf second)) ⌝ }
     {
-        let Operand::Number(first) = left else {
+        let Operand::Number(a) = first else {
             return Answer::refused(Answer::NOT_A_NUMBER);
         };
-        let Operand::Number(second) = right else {
+        let Operand::Number(b) = second else {
             return Answer::refused(Answer::NOT_A_NUMBER);
         };
-        self.of_numbers(first, second)
+        self.of_numbers(a, b)
     }
 
     fn of_numbers(self, first: i32, second: i32) -> Answer
         ensures { λ r. ⌜ r ≡ answerOf (ofNumbers self first second) ⌝ }
     {
-        let left = first as i64;
-        let right = second as i64;
+        let a = first as i64;
+        let b = second as i64;
         match self {
-            Operation::Sum => Answer::ranged(left + right),
-            Operation::Difference => Answer::ranged(left - right),
-            Operation::Product => Answer::ranged(left * right),
+            Operation::Sum => Answer::ranged(a + b),
+            Operation::Difference => Answer::ranged(a - b),
+            Operation::Product => Answer::ranged(a * b),
             Operation::Quotient => quotient(first, second),
             Operation::Remainder => remainder(first, second),
         }
@@ -50,6 +50,8 @@ impl Operation {
 }
 
 impl Answer {
+    const GIVEN: u32 = 0;
+
     const NOT_A_NUMBER: u32 = 22;
 
     const DIVISOR_ZERO: u32 = 23;
@@ -69,7 +71,7 @@ impl Answer {
         ensures { λ r. ⌜ r ≡ answerOf (number value) ⌝ }
     {
         Answer {
-            outcome: 0,
+            outcome: Answer::GIVEN,
             decimal: Decimal::of(value),
         }
     }

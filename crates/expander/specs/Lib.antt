@@ -1,4 +1,1 @@
-pub mod Walks
-pub mod Machine
-pub mod Held
 pub mod Reports

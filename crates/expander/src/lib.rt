@@ -1,25 +1,15 @@
-// Strachey's macrogenerator in lent cells.
-mod answer;
-mod apply;
-mod builtins;
-mod layout;
-mod lookup;
-mod operands;
-mod put;
-mod run;
-mod scan;
-mod signs;
-
-use run::Run;
-use run::Stepped;
+// Strachey's macrogenerator in lent memory: the public calls over the machine's one call.
+use language::outcomes;
+use machine::run::Answer;
+use machine::run::Run;
+use machine::run::Stepped;
+ghost use mathlib.Core.Path.{_≡_};
 ghost use Prim.Native.Nat.{_≤_};
 ghost use lib.ListN.{length};
-ghost use Rattle.language.specs.Signs.{standard};
-ghost use Rattle.language.specs.BuiltIns.{builtIns};
-ghost use Rattle.language.specs.Product.{ending};
-ghost use Rattle.expander.specs.Machine.{leaves};
-ghost use Rattle.expander.specs.Held.{Ended};
-ghost use Rattle.expander.specs.Reports.{left, Expanded};
+ghost use Rattle.language.specs.Signs.{standard, cellsLimit};
+ghost use Rattle.language.specs.Expansion.{lent, ending};
+ghost use Rattle.language.specs.Demand.{Expanded};
+ghost use Rattle.expander.specs.Reports.{given, outcomeOf, reportOf, refusedWith, returned, Brought};
 
 // What a run reports, in document 01's order: for Rattle and for C.
 #[repr(C)]
@@ -35,7 +25,7 @@ pub struct Report {
 // A whole run over a text, in the cells, the output and the allowance of scans that are lent. By scanning: report, output and
 // cells are those of the run that document 01 defines. By substitution: demand 3 holds of them.
 pub fn expand(text: &[u8], cells: &mut [u32], output: &mut [u8], allowance: u64) -> Report
-    ensures { λ r. ⌜ Expanded standard allowance (now (text .entry)) (now (cells .entry)) (now (output .entry)) (left r (now (cells .exit)) (now (output .exit))) ⌝ }
+    ensures { λ r. ⌜ Expanded (given standard (now (text .entry)) (lent (now (cells .entry)) (now (output .entry))) allowance) (returned r (lent (now (cells .exit)) (now (output .exit)))) ⌝ }
 {
     let sizes = language::Sizes {
         text: text.len(),
@@ -43,27 +33,12 @@ pub fn expand(text: &[u8], cells: &mut [u32], output: &mut [u8], allowance: u64)
         output: output.len(),
     };
     if sizes.too_large() {
-        return Report {
-            outcome: 2,
-            read: 0,
-            written: 0,
-            scans: 0,
-            most: 0,
-            live: 0,
-        };
+        return Report::refused(outcomes::TOO_LARGE);
     }
     let kinds = language::standard_kinds();
     let st = run_to_end(&kinds, text, cells, output, allowance);
-    cells::clear(cells);
-    let run = st.run;
-    Report {
-        outcome: st.outcome as u64,
-        read: run.read as u64,
-        written: run.written as u64,
-        scans: run.scans,
-        most: run.most as u64,
-        live: run.live as u64,
-    }
+    memory::clear(cells);
+    Report::of(st)
 }
 
 // The same run for C callers: each slice is a pointer and a length, and the report is returned by value.
@@ -74,12 +49,12 @@ pub extern "C" fn gpm_expand(
     output: &mut [u8],
     allowance: u64,
 ) -> Report
-    ensures { λ r. ⌜ Expanded standard allowance (now (text .entry)) (now (cells .entry)) (now (output .entry)) (left r (now (cells .exit)) (now (output .exit))) ⌝ }
+    ensures { λ r. ⌜ Expanded (given standard (now (text .entry)) (lent (now (cells .entry)) (now (output .entry))) allowance) (returned r (lent (now (cells .exit)) (now (output .exit)))) ⌝ }
 {
     expand(text, cells, output, allowance)
 }
 
-// Scans until the run ends. The cells then hold the definitions that stand.
+// Scans until the run ends or the allowance is used. The cells then hold the definitions that stand.
 fn run_to_end(
     kinds: &[u8; 256],
     text: &[u8],
@@ -87,18 +62,52 @@ fn run_to_end(
     output: &mut [u8],
     allowance: u64,
 ) -> Stepped
-    requires { ⌜ length (now cells) ≤ 65536 ⌝ }
-    ensures { λ r. ⌜ Ended (length (now (cells .entry))) builtIns (now (output .entry)) (leaves r (now (cells .exit)) (now (output .exit))) (ending (now (kinds .entry)) allowance (now (text .entry)) (now (cells .entry)) (now (output .entry))) ⌝ }
+    requires { ⌜ length (now cells) ≤ cellsLimit ⌝ }
+    ensures { λ r. ⌜ Brought (now (output .entry)) r (lent (now (cells .exit)) (now (output .exit))) (ending (given (now (kinds .entry)) (now (text .entry)) (lent (now (cells .entry)) (now (output .entry))) allowance)) ⌝ }
 {
-    let mut run = Run::new(cells.len());
-    let mut left = allowance;
-    while left > 0 {
-        let st = run.step(kinds, text, cells, output);
-        if st.outcome != Run::GOES_ON {
-            return st;
+    let run = Run::new(cells.len());
+    machine::go_on(run, kinds, text, cells, output, allowance)
+}
+
+impl Report {
+    // "all counts 0"
+    fn refused(outcome: u32) -> Report
+        ensures { λ r. ⌜ r ≡ refusedWith outcome ⌝ }
+    {
+        Report {
+            outcome: outcome as u64,
+            read: 0,
+            written: 0,
+            scans: 0,
+            most: 0,
+            live: 0,
         }
-        run = st.run;
-        left -= 1;
     }
-    Stepped { run, outcome: 3 }
+
+    fn of(st: Stepped) -> Report
+        ensures { λ r. ⌜ r ≡ reportOf st ⌝ }
+    {
+        let run = st.run;
+        let answer = st.answer;
+        Report {
+            outcome: outcome_of(answer) as u64,
+            read: run.counts.read as u64,
+            written: run.counts.written as u64,
+            scans: run.counts.scans,
+            most: run.counts.most as u64,
+            live: run.counts.live as u64,
+        }
+    }
+}
+
+// A run that goes on has no scan left. The last two answers a run from a fresh standing never has.
+fn outcome_of(answer: Answer) -> u32
+    ensures { λ r. ⌜ r ≡ outcomeOf answer ⌝ }
+{
+    match answer {
+        Answer::GoesOn => outcomes::NO_SCANS_LEFT,
+        Answer::Ended(outcome) => outcome,
+        Answer::Damaged => outcomes::NO_CELLS_LEFT,
+        Answer::Refused => outcomes::NO_CELLS_LEFT,
+    }
 }

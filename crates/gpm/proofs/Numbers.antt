@@ -8,8 +8,8 @@ use native.Mathlib.Omega.{arith}
 use borrow.Author.Tests.{lt-ltb, le-ltb}
 use lib.ListN.{length, take, drop, set, length-append}
 use lib.Seq.{take-all, take-at, length-take-le}
-use Rattle.cells.specs.Block.{block, placed, copied}
-use Rattle.cells.proofs.Blocks.{copied-in, placed-length, take-set-here}
+use Rattle.memory.specs.Block.{block, placed, copied}
+use Rattle.memory.proofs.Blocks.{copied-in, placed-length, take-set-here}
 use Rattle.io.specs.Digits as Io
 use Rattle.io.specs.Digits.{glyph, Fewest}
 use Rattle.decimal.specs.Shortest.{digitsOf, digits}

@@ -7,6 +7,7 @@
 // standard output ends the program. Where standard error itself cannot be written there is no place left to say so.
 use expander::Report;
 use language::Sizes;
+use language::outcomes;
 use libc::STDERR_FILENO;
 use libc::STDIN_FILENO;
 use libc::STDOUT_FILENO;
@@ -67,7 +68,7 @@ fn run(text: &[u8]) {
     let mut output = [0u8; Sizes::OUTPUT_LIMIT];
     let report = expander::expand(text, &mut cells, &mut output, SCANS);
     write_report(report);
-    if report.outcome <= 1 {
+    if report.outcome <= outcomes::FINISHED_AT_QUOTE as u64 {
         write_output(&output, report.written as usize);
     }
 }
@@ -112,7 +113,7 @@ fn put_number(line: &mut [u8], at: usize, number: u64, end: u8) -> usize
     let mut digits = [0u8; 20];
     let len = io::decimal(number, &mut digits);
     let last = at + len;
-    cells::copy_bytes(&digits[..len], 0, line, at, len);
-    cells::write_byte(line, last, end);
+    memory::copy_bytes(&digits[..len], line, at, len);
+    memory::write_byte(line, last, end);
     last + 1
 }

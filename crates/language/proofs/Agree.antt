@@ -1,7 +1,7 @@
 -- The two definitions agree.
-use Prim.Native.Nat.{ℕ, zero, suc, _≤_, _<_, _+_, _-_, max, zero-le}
+use Prim.Native.Nat.{ℕ, zero, suc, _≤_, _<_, _+_, _-_, zero-le}
 use native.Mathlib.Omega.{arith}
-use mathlib.Core.Path.{_≡_, refl, sym, _∙_, ap, subst}
+use mathlib.Core.Path.{_≡_, refl, sym, _∙_, ap}
 use mathlib.Core.Bool.{Bool, true, false}
 use mathlib.Core.List.{List, [], _∷_, _++_, append-nil, append-assoc}
 use mathlib.Core.Option.{Option, none, some}
@@ -9,17 +9,17 @@ use mathlib.Core.Logic.{_↔_}
 use lib.ListN.{length, length-append}
 use lib.Dec.{ltb, leb·suc-suc, lt→ltb}
 use lib.Ieee.Bits.{is-true}
-use Rattle.language.specs.Signs.{Bytes, Table, Meaning, copied, leftOut, opens, separates, applies, fetches, unquotes, meaning, outside, inside, closesTo, Sign, plain, dollar, comma, semicolon, tilde, quote, unquote, signOf, parameterNumber}
+use Rattle.language.specs.Signs.{Bytes, Table, copied, meaning, outside, inside, closesTo, Sign, plain, dollar, comma, semicolon, tilde, quote, unquote, signOf, parameterNumber}
 use Rattle.language.specs.Definitions.{Definition, defined, altered, oldest, newer, between, without}
 use Rattle.language.specs.BuiltIns.{Deed, reads, defines, gives, alters, faulty, deed, parameter}
-use Rattle.language.specs.Charge.{openPrice, endPrice, argumentsPrice, listPrice, definitionPrice, definitionsPrice}
+use Rattle.language.specs.Charge.{openPrice, endPrice, argumentsPrice, listPrice, definitionsPrice}
 use Rattle.language.specs.Ends.{End}
 use Rattle.language.specs.Scanning.{State, Standing, Step, next, stop, Call, Body, noLimits}
 use Rattle.language.specs.Scanning as S
-use Rattle.language.specs.Substitution.{Handed, Held, Value, Result, stretch, finish, deeper, _then_, Source, text, body, Collecting, noCall, outer, own, Eval, Go, within, eval, substituted, joined, joinedBy, noValue, extended, divided, fresh, handing, scannedByte, scannedEnd}
+use Rattle.language.specs.Substitution.{Handed, Held, Value, Result, Source, text, body, Collecting, noCall, outer, own, Eval, Go, within, eval, substituted, joined, joinedBy, noValue, extended, divided, fresh, handing, scannedByte, scannedEnd}
 use Rattle.language.specs.Substitution as R
-use Rattle.language.proofs.Prices.{arguments-append, arguments-last, price-split, price-without, price-altered, length-altered, length-oldest, length-without}
-use Rattle.language.proofs.Runs.{scan, scans, Gets, now, later, Lasts, any, Comes, toStretch, toFinish, toDeeper, after, weaker, thenComes, scansGets, getsScans, getsOnce, notLonger, scansMore}
+use Rattle.language.proofs.Prices.{arguments-last, price-split, price-without, price-altered, length-altered, length-oldest, length-without}
+use Rattle.language.proofs.Runs.{scan, scans, Gets, now, any, Comes, toStretch, toFinish, toDeeper, after, weaker, thenComes, scansGets, getsScans, getsOnce, notLonger, scansMore}
 
 -- 1. Values joined ---------------------------------------------------------------------------------------------------
 

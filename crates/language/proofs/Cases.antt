@@ -10,7 +10,7 @@ use mathlib.Core.Option.{Option, none, some}
 use lib.Dec.{eqb}
 use Rattle.decimal.specs.Operand.{operand, digitsFrom}
 use Rattle.decimal.specs.Shortest.{digitsOf}
-use Rattle.language.specs.Signs.{Bytes, Table, ascii, standard, meaning}
+use Rattle.language.specs.Signs.{Bytes, ascii, standard, meaning}
 use Rattle.language.specs.Outcomes
 use Rattle.language.specs.Definitions.{same, newest, altered, live, among}
 use Rattle.language.specs.BuiltIns.{builtIns, deed}
@@ -18,7 +18,7 @@ use Rattle.language.specs.Charge.{argumentsPrice, definitionsPrice}
 use Rattle.language.specs.Ends.{End, Reported, reported}
 use Rattle.language.specs.Scanning.{run, scan, scans, callsCharge, bodiesCharge, reading}
 use Rattle.language.specs.Substitution.{substituted, eval, within}
-use Rattle.language.specs.Product.{lent, sizesTooLarge, tooLarge, untouched, ending, leftBy, product}
+use Rattle.language.specs.Expansion.{Given, limitsOf, sizesTooLarge, tooLarge, refusedBy, answered, expanded}
 
 -- a name, the script, its output and its report
 abbrev Case : Type 0
@@ -88,7 +88,7 @@ ends e output report = same (e .output) output && sameReport (reported e) report
 
 -- what the program lends
 abbrev ran : Bytes → End
-ran t = run (lent 16384 65536) standard 10000000 t builtIns
+ran t = run (limitsOf 16384 65536) standard 10000000 t builtIns
 
 abbrev byScanning : Case → Bool
 byScanning c = ends (ran (ascii (c .1))) (ascii (c .2)) (c .3)
@@ -105,26 +105,18 @@ abbrev failing : (Case → Bool) → List Case → List String
 failing test [] = []
 failing test (c ∷ cs) = let r = failing test cs in cond (test c) r (c .0 ∷ r)
 
-pub cases-by-scanning : failing byScanning starred ≡ []
+pub cases-by-scanning : (failing byScanning starred ≡ []) × (failing byScanning shared ≡ [])
 unfolding run scan scans same newest altered live among deed argumentsPrice definitionsPrice callsCharge bodiesCharge reading meaning operand digitsFrom digitsOf
-cases-by-scanning = refl
+cases-by-scanning = (refl, refl)
 
-pub cases-by-substitution : failing bySubstitution starred ≡ []
+pub cases-by-substitution : (failing bySubstitution starred ≡ []) × (failing bySubstitution shared ≡ [])
 unfolding substituted eval within same newest altered live among deed argumentsPrice definitionsPrice meaning operand digitsFrom digitsOf
-cases-by-substitution = refl
-
-pub shared-by-scanning : failing byScanning shared ≡ []
-unfolding run scan scans same newest altered live among deed argumentsPrice definitionsPrice callsCharge bodiesCharge reading meaning operand digitsFrom digitsOf
-shared-by-scanning = refl
-
-pub shared-by-substitution : failing bySubstitution shared ≡ []
-unfolding substituted eval within same newest altered live among deed argumentsPrice definitionsPrice meaning operand digitsFrom digitsOf
-shared-by-substitution = refl
+cases-by-substitution = (refl, refl)
 
 -- the ends that substitution does not have: case a with 15 cells, case b with no allowance and with an allowance of 1, three
 -- bytes where two are lent, and sizes over the limits
 abbrev limited : ℕ → ℕ → String → End
-limited cells allowance t = run (lent cells 65536) standard allowance (ascii t) builtIns
+limited cells allowance t = run (limitsOf cells 65536) standard allowance (ascii t) builtIns
 
 pub case-a-fifteen-cells : reported (limited 15 10000000 "$DEF,k,<p~1>;$k,7;") ≡ record { outcome = 4; read = 18; written = 0; scans = 18; most = 15; live = 1 }
 unfolding run scan scans same newest altered live among deed argumentsPrice definitionsPrice callsCharge bodiesCharge reading meaning
@@ -138,7 +130,7 @@ pub case-b-one-scan : reported (limited 16384 1 "") ≡ record { outcome = 0; re
 unfolding run scan scans live definitionsPrice
 case-b-one-scan = refl
 
-pub output-full : reported (run (lent 16384 2) standard 10000000 (ascii "abc") builtIns) ≡ record { outcome = 5; read = 3; written = 2; scans = 3; most = 0; live = 0 }
+pub output-full : reported (run (limitsOf 16384 2) standard 10000000 (ascii "abc") builtIns) ≡ record { outcome = 5; read = 3; written = 2; scans = 3; most = 0; live = 0 }
 unfolding run scan scans live definitionsPrice callsCharge bodiesCharge reading meaning
 output-full = refl
 
@@ -148,8 +140,7 @@ sizes-at-the-limits = refl
 pub sizes-over-a-limit : (sizesTooLarge 65537 0 0 ≡ true) × (sizesTooLarge 0 65537 0 ≡ true) × (sizesTooLarge 0 0 65537 ≡ true)
 sizes-over-a-limit = (refl, refl, refl)
 
-pub too-large : (T : Table) (allowance : ℕ) (text : Bytes) (cells : List ℕ) (output : Bytes) → tooLarge text cells output ≡ true
-    → product T allowance text cells output ≡ record { report = record { outcome = 2; read = 0; written = 0; scans = 0; most = 0; live = 0 }; output = output; cells = cells }
-unfolding product
-too-large T allowance text cells output h =
-    ap (λ (x : Bool). cond x (untouched Outcomes.sizeTooLarge cells output) (leftBy (ending T allowance text cells output) cells output)) h
+pub too-large : (g : Given) → tooLarge g ≡ true
+    → expanded g ≡ record { report = record { outcome = 2; read = 0; written = 0; scans = 0; most = 0; live = 0 }; lent = g .lent }
+unfolding expanded refusedBy
+too-large g h = ap (λ (x : Bool). answered (cond x (some Outcomes.tooLarge) none) g) h

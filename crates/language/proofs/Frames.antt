@@ -1,23 +1,25 @@
 -- The order of frames, and sizes: what holds of every state that a run reaches.
-use Prim.Native.Nat.{ℕ, zero, suc, _≤_, _<_, _+_, _-_, max, zero-le}
+use Prim.Native.Nat.{ℕ, zero, suc, _≤_, _<_, _+_, _-_, zero-le}
 use native.Mathlib.Omega.{arith}
-use mathlib.Core.Path.{_≡_, refl, sym, _∙_, ap, subst}
+use mathlib.Core.Path.{_≡_, refl, sym, subst}
 use mathlib.Core.Bool.{Bool, true, false, cond}
 use mathlib.Core.List.{List, [], _∷_, _++_}
 use mathlib.Core.Option.{Option, none, some}
-use lib.ListN.{length, getD, length-append}
+use lib.ListN.{length, length-append}
 use lib.Dec.{ltb}
 use borrow.Author.Tests.{ltb-true, ltb-false}
 use Rattle.decimal.specs.Arithmetic.{Result, number, refused, calculated}
 use Rattle.language.specs.Signs.{Bytes, Table, Meaning, copied, leftOut, opens, separates, applies, fetches, unquotes, meaning, parameterNumber}
 use Rattle.language.specs.Outcomes
-use Rattle.language.specs.Definitions.{BuiltIn, def, val, update, arithmetic, Content, macro, builtIn, Definition, defined, Found, found, missing, newest, same, among, altered, oldest, newer, without}
+use Rattle.language.specs.declared.built_ins.BuiltIn.{BuiltIn}
+use Rattle.language.specs.declared.built_ins.BuiltIn.the-variants.{Def, Val, Update, Arithmetic}
+use Rattle.language.specs.Definitions.{Content, macro, builtIn, Definition, defined, Found, found, missing, newest, same, among, altered, oldest, without}
 use Rattle.language.specs.BuiltIns.{Deed, reads, defines, gives, alters, faulty, deed, deedOf, performed, valueOf, updateOf, resultOf, parameter, needs}
 use Rattle.language.specs.Charge.{openPrice, endPrice, argumentsPrice, listPrice, definitionPrice, definitionsPrice}
 use Rattle.language.specs.Ends.{End}
-use Rattle.language.specs.Scanning.{State, Standing, Call, Body, Step, next, stop, Limits, callsBelow}
+use Rattle.language.specs.Scanning.{State, Standing, Call, Body, Step, next, Limits, callsBelow}
 use Rattle.language.specs.Scanning as S
-use Rattle.language.proofs.Prices.{arguments-last, price-append, price-split, price-without, price-altered, length-altered, length-oldest, length-without}
+use Rattle.language.proofs.Prices.{arguments-last, price-split, price-without, price-altered, length-altered, length-oldest, length-without}
 use Rattle.language.proofs.Leads.{Leads, goesOn, ended, chargingLeads, writingLeads, scansLead}
 
 -- 1. Frames ----------------------------------------------------------------------------------------------------------
@@ -106,7 +108,7 @@ updateAllowed list ds busy w missing = tt
 updateAllowed list ds busy w (found k (builtIn b)) = tt
 updateAllowed list ds busy w (found k (macro v room)) = go (among k busy) (ltb room (length w))
   where
-    go : (a b : Bool) → Allowed list ds (cond a (faulty Outcomes.bodyBeingRead) (cond b (faulty Outcomes.valueTooLong) (alters k w)))
+    go : (a b : Bool) → Allowed list ds (cond a (faulty Outcomes.bodyBeingRead) (cond b (faulty Outcomes.updateTooLong) (alters k w)))
     go true true = tt
     go true false = tt
     go false true = tt
@@ -117,10 +119,10 @@ resultAllowed list ds (number z) = tt
 resultAllowed list ds (refused outcome) = tt
 
 performedAllowed : (busy : List ℕ) (list : List Bytes) (ds : List Definition) (b : BuiltIn) → needs b < length list → Allowed list ds (performed busy list ds b)
-performedAllowed busy list ds def h = omega (arith, threeCost list h)
-performedAllowed busy list ds val h = valueAllowed list ds (newest (parameter 1 list) ds)
-performedAllowed busy list ds update h = updateAllowed list ds busy (parameter 2 list) (newest (parameter 1 list) ds)
-performedAllowed busy list ds (arithmetic op) h = resultAllowed list ds (calculated op (parameter 1 list) (parameter 2 list))
+performedAllowed busy list ds Def h = omega (arith, threeCost list h)
+performedAllowed busy list ds Val h = valueAllowed list ds (newest (parameter 1 list) ds)
+performedAllowed busy list ds Update h = updateAllowed list ds busy (parameter 2 list) (newest (parameter 1 list) ds)
+performedAllowed busy list ds (Arithmetic op) h = resultAllowed list ds (calculated op (parameter 1 list) (parameter 2 list))
 
 pub deedAllowed : (busy : List ℕ) (list : List Bytes) (ds : List Definition) → Allowed list ds (deed busy list ds)
 unfolding deed

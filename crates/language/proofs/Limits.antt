@@ -12,11 +12,13 @@ use lib.Dec.{T as So, leb→le, nleb→lt, ltb}
 use lib.IntN.{ℤ}
 use Rattle.decimal.specs.declared.operations.Operation.{Operation}
 use Rattle.decimal.specs.Operand.{operand, inRange}
-use Rattle.decimal.specs.Arithmetic.{Result, number, refused, divides, isZero, exact, ofOperands}
+use Rattle.decimal.specs.Arithmetic.{Result, divides, isZero, exact, ofOperands}
 use Rattle.language.specs.Signs.{Bytes, Table, Meaning, copied, leftOut, opens, separates, applies, fetches, unquotes, meaning, parameterNumber}
 use Rattle.language.specs.Outcomes
 use Rattle.language.specs.Outcomes.{endOfText}
-use Rattle.language.specs.Definitions.{BuiltIn, def, val, update, arithmetic, macro, builtIn, Definition, Found, found, missing, newest, among}
+use Rattle.language.specs.declared.built_ins.BuiltIn.{BuiltIn}
+use Rattle.language.specs.declared.built_ins.BuiltIn.the-variants.{Def, Val, Update, Arithmetic}
+use Rattle.language.specs.Definitions.{macro, builtIn, Definition, Found, found, missing, newest, among}
 use Rattle.language.specs.BuiltIns.{Deed, reads, defines, gives, alters, faulty, deed, deedOf, valueOf, updateOf, resultOf, performed, parameter, needs}
 use Rattle.language.specs.Charge.{openPrice, endPrice, definitionsPrice}
 use Rattle.language.specs.Ends.{End}
@@ -24,7 +26,9 @@ use Rattle.language.specs.Scanning as S
 use Rattle.language.specs.Scanning.{Call, Body, Standing, State, Step, next, stop, ends, standingWith, withText, withQuotes, withBodies, withRest}
 use Rattle.language.specs.Scanning.{counting, noting, charge, Limit, unlimited, atMost, allows, Limits, noLimits, listOf, reading, ownCall}
 use Rattle.language.specs.Scanning.{scan, scans, start, endOf, run}
-use Rattle.language.specs.Product.{lent}
+use Rattle.language.specs.Expansion.{limitsOf}
+use Rattle.language.proofs.Lists.{either}
+use Rattle.language.proofs.Leads.{not-end, scans-stop}
 
 -- what a state or an end reports
 abbrev pub standingOf : Step → Standing
@@ -93,8 +97,8 @@ module _ (L : Limits) where
 
   -- a standing above the limit that the outcome k tells of
   data Exceeds (k : ℕ) (w : Standing) : Type 0 where
-    overCells : k ≡ Outcomes.cellsExceeded → Above (L .cells) (w .most) → Exceeds k w
-    overOutput : k ≡ Outcomes.outputExceeded → Above (L .output) (length (w .output)) → Exceeds k w
+    overCells : k ≡ Outcomes.noCellsLeft → Above (L .cells) (w .most) → Exceeds k w
+    overOutput : k ≡ Outcomes.noOutputLeft → Above (L .output) (length (w .output)) → Exceeds k w
 
   -- a standing within the limits is above none of them
   fits-not-exceeds : {k : ℕ} {w : Standing} → Fits w → Exceeds k w → ⊥
@@ -126,11 +130,6 @@ Sound (gives bs) = Unit
 Sound (alters k v) = Unit
 Sound (faulty n) = So (endOfText n)
 
--- what holds of both values holds of the one that a test chooses
-either : {A : Type 0} (P : A → Type 0) (b : Bool) (x y : A) → P x → P y → P (cond b x y)
-either P true x y p q = p
-either P false x y p q = q
-
 -- the faults of VAL
 value-sound : (f : Found) → Sound (valueOf f)
 value-sound missing = tt
@@ -141,30 +140,30 @@ value-sound (found k (macro v room)) = tt
 update-sound : (js : List ℕ) (w : Bytes) (f : Found) → Sound (updateOf js w f)
 update-sound js w missing = tt
 update-sound js w (found k (builtIn b)) = tt
-update-sound js w (found k (macro v room)) = either Sound (among k js) _ _ tt (either Sound (ltb room (length w)) _ _ tt tt)
+update-sound js w (found k (macro v room)) = either Sound (among k js) tt (either Sound (ltb room (length w)) tt tt)
 
 -- those of arithmetic: 22, 23 and 24
 arithmetic-sound : (op : Operation) (a b : Option ℤ) → Sound (resultOf (ofOperands op a b))
 arithmetic-sound op none b = tt
 arithmetic-sound op (some a) none = tt
 arithmetic-sound op (some a) (some b) =
-    either sound (divides op && isZero b) (refused _) _ tt (either sound (inRange (exact op a b)) (number _) (refused _) tt tt)
+    either sound (divides op && isZero b) tt (either sound (inRange (exact op a b)) tt tt)
   where
     sound : Result → Type 0
     sound r = Sound (resultOf r)
 
 -- those of a built-in
 performed-sound : (js : List ℕ) (list : List Bytes) (ds : List Definition) (b : BuiltIn) → Sound (performed js list ds b)
-performed-sound js list ds def = tt
-performed-sound js list ds val = value-sound (newest (parameter 1 list) ds)
-performed-sound js list ds update = update-sound js (parameter 2 list) (newest (parameter 1 list) ds)
-performed-sound js list ds (arithmetic op) = arithmetic-sound op (operand (parameter 1 list)) (operand (parameter 2 list))
+performed-sound js list ds Def = tt
+performed-sound js list ds Val = value-sound (newest (parameter 1 list) ds)
+performed-sound js list ds Update = update-sound js (parameter 2 list) (newest (parameter 1 list) ds)
+performed-sound js list ds (Arithmetic op) = arithmetic-sound op (operand (parameter 1 list)) (operand (parameter 2 list))
 
 -- those of a call whose name was looked for
 found-sound : (js : List ℕ) (list : List Bytes) (ds : List Definition) (f : Found) → Sound (deedOf js list ds f)
 found-sound js list ds missing = tt
 found-sound js list ds (found k (macro v room)) = tt
-found-sound js list ds (found k (builtIn b)) = either Sound (ltb (needs b) (length list)) _ _ (performed-sound js list ds b) tt
+found-sound js list ds (found k (builtIn b)) = either Sound (ltb (needs b) (length list)) (performed-sound js list ds b) tt
 
 -- every fault of an applied call is of the text
 deed-sound : (js : List ℕ) (list : List Bytes) (ds : List Definition) → Sound (deed js list ds)
@@ -234,20 +233,20 @@ module _ (L : Limits) where
 
   -- a rule that writes and charges nothing
   written : (bs : Bytes) (s : State) {r : Step} → Writes (s .standing) bs r → OfText r
-      → Alike (s .standing) (cond (allows (L .output) (length (s .standing .output) + length bs)) r (ends Outcomes.outputExceeded s)) r
+      → Alike (s .standing) (cond (allows (L .output) (length (s .standing .output) + length bs)) r (ends Outcomes.noOutputLeft s)) r
   written bs s {r} p t = go (allows (L .output) n) (allows-within (L .output) n) (refuses-above (L .output) n)
     where
       n : ℕ
       n = length (s .standing .output) + length bs
 
       go : (b : Bool) → (So b → Within (L .output) n) → (So (not b) → Above (L .output) n)
-          → Alike (s .standing) (cond b r (ends Outcomes.outputExceeded s)) r
+          → Alike (s .standing) (cond b r (ends Outcomes.noOutputLeft s)) r
       go true within above = allowed bs p t λ h. rw length-append (within tt)
       go false within above = cut _ s (writes-grows bs r p) t (overOutput refl (rw (p, length-append) (above tt)))
 
   -- a rule that charges n cells and goes on
   charged : (n : ℕ) (s : State) {r r∞ : Step} → Alike (noting (charge s + n) s .standing) r r∞
-      → Alike (s .standing) (cond (allows (L .cells) (charge s + n)) r (ends Outcomes.cellsExceeded s)) r∞
+      → Alike (s .standing) (cond (allows (L .cells) (charge s + n)) r (ends Outcomes.noCellsLeft s)) r∞
   charged n s {r} {r∞} a = go (allows (L .cells) c) (allows-within (L .cells) c) (refuses-above (L .cells) c)
     where
       c : ℕ
@@ -262,7 +261,7 @@ module _ (L : Limits) where
           refuses (record { end = x .end; stopped = x .stopped; output = x .output; definitions = x .definitions; exceeds = x .exceeds })
 
       go : (b : Bool) → (So b → Within (L .cells) c) → (So (not b) → Above (L .cells) c)
-          → Alike (s .standing) (cond b r (ends Outcomes.cellsExceeded s)) r∞
+          → Alike (s .standing) (cond b r (ends Outcomes.noCellsLeft s)) r∞
       go true within above = record {
         scans = a .scans;
         fits = λ h. a .fits (record { most = within-max (L .cells) _ _ (h .most) (within tt); output = h .output });
@@ -391,23 +390,13 @@ module _ (L : Limits) where
 
 -- Runs under any limits ----------------------------------------------------------------------------------------------
 
--- a state is not an end
-not-end : {A : Type 0} {s : State} {e : End} → next s ≡ stop e → A
-not-end p = let z : _≡_ {A = ℕ} 0 1 = cc in absurd (omega arith)
-
 module _ (L : Limits) (T : Table) where
-  -- an end stays
-  scans-stop : (n : ℕ) (e : End) → scans L T n (stop e) ≡ stop e
-  unfolding scans
-  scans-stop zero e = refl
-  scans-stop (suc n) e = refl
-
   -- m scans, and then k more
   scans-sum : (m k : ℕ) (r : Step) → scans L T (m + k) r ≡ scans L T k (scans L T m r)
   unfolding scans
   scans-sum zero k r = rw zero-add
   scans-sum (suc m) k (next s) = rw suc-add (scans-sum m k (scan L T s))
-  scans-sum (suc m) k (stop e) = rw (suc-add, scans-stop k e)
+  scans-sum (suc m) k (stop e) = rw (suc-add, scans-stop L T k e)
 
   -- a scan after n others
   scans-next : (n : ℕ) (r : Step) (s : State) → scans L T n r ≡ next s → scans L T (suc n) r ≡ scan L T s
@@ -416,7 +405,7 @@ module _ (L : Limits) (T : Table) where
 
   -- a run that has ended has ended with any more scans
   scans-ended : (m n : ℕ) (r : Step) (e : End) → m ≤ n → scans L T m r ≡ stop e → scans L T n r ≡ stop e
-  scans-ended m n r e h p = let q : n ≡ m + (n - m) = omega arith in rw (q, scans-sum m (n - m) r, p) (scans-stop (n - m) e)
+  scans-ended m n r e h p = let q : n ≡ m + (n - m) = omega arith in rw (q, scans-sum m (n - m) r, p) (scans-stop L T (n - m) e)
 
   -- a scan counts itself
   scan-counts : (s : State) → standingOf (scan L T s) .scans ≡ s .standing .scans + 1
@@ -456,7 +445,7 @@ module _ (L : Limits) (T : Table) where
           → ((s₁ : State) → scans L T n (next s₁) ≡ next s′ → s′ .standing .scans ≡ s₁ .standing .scans + n)
           → s′ .standing .scans ≡ s .standing .scans + suc n
       go (next s₁) c p ih = omega (arith, ih s₁ p)
-      go (stop e) c p ih = not-end (sym p ∙ scans-stop n e)
+      go (stop e) c p ih = not-end (sym p ∙ scans-stop L T n e)
 
   -- the end e of a run of at most n scans from s: it is reached with exactly as many as it reports
   pub record Counted (n : ℕ) (s : State) (e : End) : Type 0 where
@@ -481,7 +470,7 @@ module _ (L : Limits) (T : Table) where
             exactly = rw k (ap (scans L T (e .scans - s₁ .standing .scans)) q ∙ i .exactly);
           }
       go (stop e₁) q c p ih =
-          let d : e₁ ≡ e = cc (scans-stop n e₁) in
+          let d : e₁ ≡ e = cc (scans-stop L T n e₁) in
           let k : e .scans ≡ s .standing .scans + 1 = rw (← d) c in
           let one : e .scans - s .standing .scans ≡ 1 = omega arith in
           record { above = omega arith; below = omega arith; exactly = rw (one, ← d) q }
@@ -577,44 +566,44 @@ module _ (T : Table) (t : Bytes) (ds : List Definition) where
     -- what a limited run has met at its end e
     pub data Met (e : End) : Type 0 where
       ended : So (endOfText (e .outcome)) → Met e
-      allowance : e .outcome ≡ Outcomes.allowanceUsed → Lasted n e → Met e
-      cells : e .outcome ≡ Outcomes.cellsExceeded → Refused (λ w. c < w .most) n e → Met e
-      output : e .outcome ≡ Outcomes.outputExceeded → Refused (λ w. o < length (w .output)) n e → Met e
+      allowance : e .outcome ≡ Outcomes.noScansLeft → Lasted n e → Met e
+      cells : e .outcome ≡ Outcomes.noCellsLeft → Refused (λ w. c < w .most) n e → Met e
+      output : e .outcome ≡ Outcomes.noOutputLeft → Refused (λ w. o < length (w .output)) n e → Met e
 
     -- a limited run needs no more than is lent
-    pub within-lent : definitionsPrice ds ≤ c → Needs c o n (run (lent c o) T n t ds)
+    pub within-lent : definitionsPrice ds ≤ c → Needs c o n (run (limitsOf c o) T n t ds)
     unfolding run
-    within-lent d = go (after (lent c o) T t ds n) refl (scans-fit (lent c o) T n (next (start t ds)) (record { most = d; output = omega arith }))
+    within-lent d = go (after (limitsOf c o) T t ds n) refl (scans-fit (limitsOf c o) T n (next (start t ds)) (record { most = d; output = omega arith }))
       where
-        go : (r : Step) → after (lent c o) T t ds n ≡ r → Fits (lent c o) (standingOf r) → Needs c o n (endOf r)
-        go (next s) p f = record { cells = f .most; output = f .output; scans = omega (arith, counted (lent c o) T n (start t ds) s p) }
-        go (stop e) p f = record { cells = f .most; output = f .output; scans = omega (arith, counted-end (lent c o) T n (start t ds) e p .below) }
+        go : (r : Step) → after (limitsOf c o) T t ds n ≡ r → Fits (limitsOf c o) (standingOf r) → Needs c o n (endOf r)
+        go (next s) p f = record { cells = f .most; output = f .output; scans = omega (arith, counted (limitsOf c o) T n (start t ds) s p) }
+        go (stop e) p f = record { cells = f .most; output = f .output; scans = omega (arith, counted-end (limitsOf c o) T n (start t ds) e p .below) }
 
     -- a limited run that finishes or meets a fault of the text is the unlimited one
-    pub ended-alike : So (endOfText (run (lent c o) T n t ds .outcome)) → after noLimits T t ds n ≡ stop (run (lent c o) T n t ds)
+    pub ended-alike : So (endOfText (run (limitsOf c o) T n t ds .outcome)) → after noLimits T t ds n ≡ stop (run (limitsOf c o) T n t ds)
     unfolding run
-    ended-alike h = go (comes (lent c o) n)
+    ended-alike h = go (comes (limitsOf c o) n)
       where
         ended-at : (r : Step) → So (endOfText (endOf r .outcome)) → r ≡ stop (endOf r)
         ended-at (next s) h = absurd h
         ended-at (stop e) h = refl
 
-        go : Comes (lent c o) n → after noLimits T t ds n ≡ stop (endOf (after (lent c o) T t ds n))
-        go (alike p) = sym p ∙ ended-at (after (lent c o) T t ds n) h
-        go (breaks e p x) = absurd (exceeds-not-ofText (lent c o) (x .passed) (rw p at h))
+        go : Comes (limitsOf c o) n → after noLimits T t ds n ≡ stop (endOf (after (limitsOf c o) T t ds n))
+        go (alike p) = sym p ∙ ended-at (after (limitsOf c o) T t ds n) h
+        go (breaks e p x) = absurd (exceeds-not-ofText (limitsOf c o) (x .passed) (rw p at h))
 
     -- an unlimited run that needs no more than is lent is the limited one
-    pub fitting-run : (m : ℕ) (e : End) → after noLimits T t ds m ≡ stop e → Needs c o n e → run (lent c o) T n t ds ≡ e
+    pub fitting-run : (m : ℕ) (e : End) → after noLimits T t ds m ≡ stop e → Needs c o n e → run (limitsOf c o) T n t ds ≡ e
     unfolding run
-    fitting-run m e p f = go (comes (lent c o) n)
+    fitting-run m e p f = go (comes (limitsOf c o) n)
       where
         whole : after noLimits T t ds n ≡ stop e
         whole = scans-ended noLimits T (e .scans - 0) n _ e (omega (arith, f .scans)) (counted-end noLimits T m (start t ds) e p .exactly)
 
-        go : Comes (lent c o) n → endOf (after (lent c o) T t ds n) ≡ e
+        go : Comes (limitsOf c o) n → endOf (after (limitsOf c o) T t ds n) ≡ e
         go (alike q) = rw (q, whole)
         go (breaks e₁ q x) =
-            absurd (fits-not-exceeds (lent c o) (record { most = f .cells; output = f .output }) (exceeds-up (lent c o) grown (x .passed)))
+            absurd (fits-not-exceeds (limitsOf c o) (record { most = f .cells; output = f .output }) (exceeds-up (limitsOf c o) grown (x .passed)))
           where
             grown : Grows (standingOf (scan noLimits T (x .state))) (standingOf (stop e))
             grown =
@@ -622,31 +611,31 @@ module _ (T : Table) (t : Bytes) (ds : List Definition) where
                 at (scans-grow-to noLimits T (suc (x .made)) n (next (start t ds)) (x .fewer))
 
     -- a limited run ends as the unlimited one does, or has really met the limit that it reports
-    pub otherwise : Met (run (lent c o) T n t ds)
+    pub otherwise : Met (run (limitsOf c o) T n t ds)
     unfolding run
-    otherwise = go (comes (lent c o) n)
+    otherwise = go (comes (limitsOf c o) n)
       where
         reached : (r : Step) → after noLimits T t ds n ≡ r → Met (endOf r)
         reached (next s) q =
             allowance refl (record { state = s; reached = q; standing = refl; counts = omega (arith, counted noLimits T n (start t ds) s q) })
         reached (stop e) q = ended (unlimited-ends n e q)
 
-        broken : (e : End) (x : Refused (Exceeds (lent c o) (e .outcome)) n e)
-            → Exceeds (lent c o) (e .outcome) (standingOf (scan noLimits T (x .state))) → Met e
+        broken : (e : End) (x : Refused (Exceeds (limitsOf c o) (e .outcome)) n e)
+            → Exceeds (limitsOf c o) (e .outcome) (standingOf (scan noLimits T (x .state))) → Met e
         broken e x (overCells k h) = cells k (refused-as x (omega arith) h)
         broken e x (overOutput k h) = output k (refused-as x (omega arith) h)
 
-        go : Comes (lent c o) n → Met (endOf (after (lent c o) T t ds n))
+        go : Comes (limitsOf c o) n → Met (endOf (after (limitsOf c o) T t ds n))
         go (alike p) = rw p (reached (after noLimits T t ds n) refl)
         go (breaks e p x) = rw p (broken e x (x .passed))
 
     -- the output of a limited run is a beginning of that of the unlimited one at every later point
-    pub prefix : (k : ℕ) → run (lent c o) T n t ds .scans ≤ k
-        → (more : Bytes) × (standingOf (after noLimits T t ds k) .output ≡ run (lent c o) T n t ds .output ++ more)
+    pub prefix : (k : ℕ) → run (limitsOf c o) T n t ds .scans ≤ k
+        → (more : Bytes) × (standingOf (after noLimits T t ds k) .output ≡ run (limitsOf c o) T n t ds .output ++ more)
     prefix k h = go otherwise
       where
         e : End
-        e = run (lent c o) T n t ds
+        e = run (limitsOf c o) T n t ds
 
         from : (m : ℕ) (r : Step) → m ≤ k → after noLimits T t ds m ≡ r → standingOf r .output ≡ e .output
             → (more : Bytes) × (standingOf (after noLimits T t ds k) .output ≡ e .output ++ more)
@@ -660,8 +649,8 @@ module _ (T : Table) (t : Bytes) (ds : List Definition) where
 
     -- and at its end
     pub prefix-end : (m : ℕ) (e : End) → after noLimits T t ds m ≡ stop e
-        → (more : Bytes) × (e .output ≡ run (lent c o) T n t ds .output ++ more)
+        → (more : Bytes) × (e .output ≡ run (limitsOf c o) T n t ds .output ++ more)
     prefix-end m e p = rw (scans-ended noLimits T m k (next (start t ds)) e (omega arith) p) at (prefix k (omega arith))
       where
         k : ℕ
-        k = m + run (lent c o) T n t ds .scans
+        k = m + run (limitsOf c o) T n t ds .scans

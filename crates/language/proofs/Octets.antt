@@ -14,54 +14,20 @@ use Rattle.decimal.specs.Arithmetic.{Result, number, refused, calculated}
 use Rattle.decimal.proofs.Bytes.{Each, OfDecimal}
 use Rattle.decimal.proofs.Laws.{shortest-bytes}
 use Rattle.language.specs.Signs.{Bytes, ascii, Table, Meaning, copied, leftOut, opens, separates, applies, fetches, unquotes, meaning, parameterNumber}
-use Rattle.language.specs.Definitions.{BuiltIn, def, val, update, arithmetic, Content, macro, builtIn, Definition, Found, found, missing, same, newest, valued, altered, oldest, among}
+use Rattle.language.specs.declared.built_ins.BuiltIn.{BuiltIn}
+use Rattle.language.specs.declared.built_ins.BuiltIn.the-variants.{Def, Val, Update, Arithmetic}
+use Rattle.language.specs.Definitions.{Content, macro, builtIn, Definition, Found, found, missing, same, newest, valued, altered, oldest, among}
 use Rattle.language.specs.BuiltIns.{Deed, reads, defines, gives, alters, faulty, named, builtIns, needs, parameter, valueOf, updateOf, resultOf, performed, deedOf, deed}
 use Rattle.language.specs.Charge.{openPrice, endPrice}
 use Rattle.language.specs.Ends.{End}
 use Rattle.language.specs.Scanning.{Call, Body, Standing, State, Step, next, stop, Limits, listOf}
 use Rattle.language.specs.Scanning as S
 use Rattle.language.specs.Matched.{All, empty, with}
+use Rattle.language.specs.Octets.{Octets, CallOctets, BodyOctets, ContentOctets, DefinitionOctets, HoldsOctets, EndsOctets}
 use Rattle.language.proofs.Leads.{Leads, goesOn, ended, chargingLeads, writingLeads, onNext, onStop, scansLead}
-use Rattle.language.proofs.Quotes.{either, all-append, all-take, all-drop, all-getD}
+use Rattle.language.proofs.Lists.{either, all-append, all-take, all-drop, all-getD}
 
 -- What is shown ------------------------------------------------------------------------------------------------------
-
--- a string of bytes
-abbrev pub Octets : Bytes → Type 0
-Octets bs = All (λ b. b < 256) bs
-
--- a call being collected
-pub record CallOctets (c : Call) : Type 0 where
-  pub ended : All Octets (c .ended)
-  pub hand : Octets (c .hand)
-
--- a body being read
-pub record BodyOctets (B : Body) : Type 0 where
-  pub list : All Octets (B .list)
-  pub rest : Octets (B .rest)
-
--- a macro's value; a built-in has none
-abbrev pub ContentOctets : Content → Type 0
-ContentOctets (macro v room) = Octets v
-ContentOctets (builtIn b) = Unit {0}
-
--- a definition
-pub record DefinitionOctets (d : Definition) : Type 0 where
-  pub name : Octets (d .name)
-  pub content : ContentOctets (d .content)
-
--- every string that a state holds
-pub record HoldsOctets (s : State) : Type 0 where
-  pub text : Octets (s .text)
-  pub calls : All CallOctets (s .calls)
-  pub bodies : All BodyOctets (s .bodies)
-  pub definitions : All DefinitionOctets (s .standing .definitions)
-  pub output : Octets (s .standing .output)
-
--- and every string that an end reports
-pub record EndsOctets (e : End) : Type 0 where
-  pub definitions : All DefinitionOctets (e .definitions)
-  pub output : Octets (e .output)
 
 -- what a step comes to
 abbrev Kept : Step → Type 0
@@ -151,10 +117,10 @@ result-octets (refused outcome) = tt
 module _ (ks : List ℕ) {list : List Bytes} (P : All Octets list) {ds : List Definition} (D : All DefinitionOctets ds) where
   -- each built-in
   performed-octets : (b : BuiltIn) → DeedOctets (performed ks list ds b)
-  performed-octets def = (all-getD [] empty P 1, all-getD [] empty P 2)
-  performed-octets val = value-octets (newest (parameter 1 list) ds) (newest-octets (parameter 1 list) D)
-  performed-octets update = update-octets ks (parameter 2 list) (all-getD [] empty P 2) (newest (parameter 1 list) ds)
-  performed-octets (arithmetic op) = result-octets (calculated op (parameter 1 list) (parameter 2 list))
+  performed-octets Def = (all-getD [] empty P 1, all-getD [] empty P 2)
+  performed-octets Val = value-octets (newest (parameter 1 list) ds) (newest-octets (parameter 1 list) D)
+  performed-octets Update = update-octets ks (parameter 2 list) (all-getD [] empty P 2) (newest (parameter 1 list) ds)
+  performed-octets (Arithmetic op) = result-octets (calculated op (parameter 1 list) (parameter 2 list))
 
   -- by what the name is found to be
   deed-of-octets : (f : Found) → FoundOctets f → DeedOctets (deedOf ks list ds f)

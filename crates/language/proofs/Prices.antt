@@ -1,10 +1,10 @@
 -- Laws of definitions and their prices, for any lists.
-use Prim.Native.Nat.{ℕ, zero, suc, _≤_, _<_, _+_, _-_, min, zero-le}
+use Prim.Native.Nat.{ℕ, suc, _≤_, _+_, _-_}
 use native.Mathlib.Omega.{arith}
 use mathlib.Core.Path.{_≡_, refl, sym, _∙_, ap}
 use mathlib.Core.Bool.{Bool, true, false, cond}
 use mathlib.Core.List.{List, [], _∷_, _++_}
-use lib.ListN.{length, take, drop, length-append, length-take, length-drop, take-append-drop}
+use lib.ListN.{length, drop, length-append, length-take, length-drop, take-append-drop}
 use lib.Seq.{drop-drop}
 use lib.Dec.{eqb}
 use Rattle.language.specs.Signs.{Bytes}

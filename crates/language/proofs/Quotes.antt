@@ -7,7 +7,7 @@ use mathlib.Core.Path.{_≡_, refl, sym, _∙_, ap, subst}
 use mathlib.Core.Bool.{Bool, true, false, cond, _&&_}
 use mathlib.Core.List.{List, [], _∷_, _++_}
 use mathlib.Core.Option.{Option, none, some, bind}
-use lib.ListN.{length, take, drop, getD, replicate, getD-replicate, List·getD-append}
+use lib.ListN.{length, drop, getD, replicate, getD-replicate, List·getD-append}
 use lib.Seq.{getD-drop}
 use lib.Dec.{leb, ltb, eqb}
 use lib.IntN.{ℤ, pos, negsuc}
@@ -19,44 +19,18 @@ use Rattle.decimal.specs.Shortest.{digitsOf, shortest}
 use Rattle.language.specs.Signs.{Bytes, Table, Sign, plain, dollar, comma, semicolon, tilde, quote, unquote, signOfKind, signOf, Meaning, copied, leftOut, opens, separates, applies, fetches, unquotes, outside, inside, meaning, parameterNumber, standard}
 use Rattle.language.specs.Outcomes
 use Rattle.language.specs.Outcomes.{finishes}
-use Rattle.language.specs.Definitions.{BuiltIn, def, val, update, arithmetic, Content, macro, builtIn, Definition, Found, found, missing, same, newest, valued, altered, oldest, without, among}
+use Rattle.language.specs.declared.built_ins.BuiltIn.{BuiltIn}
+use Rattle.language.specs.declared.built_ins.BuiltIn.the-variants.{Def, Val, Update, Arithmetic}
+use Rattle.language.specs.Definitions.{Content, macro, builtIn, Definition, Found, found, missing, same, newest, valued, altered, oldest, without, among}
 use Rattle.language.specs.BuiltIns.{Deed, reads, defines, gives, alters, faulty, builtIns, needs, parameter, valueOf, updateOf, resultOf, performed, deedOf, deed}
 use Rattle.language.specs.Charge.{openPrice, endPrice}
 use Rattle.language.specs.Ends.{End}
 use Rattle.language.specs.Scanning.{Call, Body, Standing, State, Step, next, stop, ends, noting, withRest, Limits, listOf, reading, scan, scans, start, endOf, run}
 use Rattle.language.specs.Scanning as S
 use Rattle.language.specs.Matched.{depthBy, depthAfter, Matched, All, empty, with, Innermost, CallMatches, BodyMatches, ContentMatches, ValueMatches, depthWritten, QuotesMatch, DigitsPlain}
-
--- whichever of two is taken, where both have a property
-pub either : {A : Type 0} (P : A → Type 0) (t : Bool) {a b : A} → P a → P b → P (cond t a b)
-either P true p q = p
-either P false p q = q
+use Rattle.language.proofs.Lists.{either, all-append, all-take, all-drop, all-getD}
 
 -- Every element ------------------------------------------------------------------------------------------------------
-
-module _ {A : Type 0} {P : A → Type 0} where
-  -- of two lists, one behind the other
-  pub all-append : {xs ys : List A} → All P xs → All P ys → All P (xs ++ ys)
-  all-append empty q = q
-  all-append (with p ps) q = with p (all-append ps q)
-
-  -- of the first n
-  pub all-take : (n : ℕ) {xs : List A} → All P xs → All P (take n xs)
-  all-take zero p = empty
-  all-take (suc n) empty = empty
-  all-take (suc n) (with p ps) = with p (all-take n ps)
-
-  -- of all but the first n
-  pub all-drop : (n : ℕ) {xs : List A} → All P xs → All P (drop n xs)
-  all-drop zero p = p
-  all-drop (suc n) empty = empty
-  all-drop (suc n) (with p ps) = all-drop n ps
-
-  -- of element n, or of what stands for one that is missing
-  pub all-getD : (d : A) → P d → {xs : List A} → All P xs → (n : ℕ) → P (getD xs n d)
-  all-getD d z empty n = z
-  all-getD d z (with p ps) zero = p
-  all-getD d z (with p ps) (suc n) = all-getD d z ps n
 
 module _ {A : Type 0} (P : ℕ → A → Type 0) where
   -- outside of quotes the innermost is as the others
@@ -242,10 +216,10 @@ module _ (T : Table) where
 
       -- each built-in
       performed-matches : (b : BuiltIn) → DeedMatches (performed ks list ds b)
-      performed-matches def = parameter-matches 2
-      performed-matches val = value-matches (newest (parameter 1 list) ds) (newest-matches (parameter 1 list) D)
-      performed-matches update = update-matches ks (parameter 2 list) (parameter-matches 2) (newest (parameter 1 list) ds)
-      performed-matches (arithmetic op) = result-matches op (operand (parameter 1 list)) (operand (parameter 2 list))
+      performed-matches Def = parameter-matches 2
+      performed-matches Val = value-matches (newest (parameter 1 list) ds) (newest-matches (parameter 1 list) D)
+      performed-matches Update = update-matches ks (parameter 2 list) (parameter-matches 2) (newest (parameter 1 list) ds)
+      performed-matches (Arithmetic op) = result-matches op (operand (parameter 1 list)) (operand (parameter 2 list))
 
       -- by what the name is found to be
       deed-of-matches : (f : Found) → FoundMatches f → DeedMatches (deedOf ks list ds f)
@@ -330,14 +304,14 @@ module _ (L : Limits) (T : Table) (digits : DigitsPlain T) where
       → Kept T (s .standing .output) (S.charging L n s go)
   charged n s go h =
       either (Kept T (s .standing .output)) (S.allows (L .cells) (S.charge s + n)) (h (S.charge s + n))
-      (refused T Outcomes.cellsExceeded s refl)
+      (refused T Outcomes.noCellsLeft s refl)
 
   -- within the output lent, or refused
   written : (bs : Bytes) (s : State) (go : State → Step) → Kept T (s .standing .output) (go (S.withOutput (s .standing .output ++ bs) s))
       → Kept T (s .standing .output) (S.writing L bs s go)
   written bs s go h =
       either (Kept T (s .standing .output)) (S.allows (L .output) (length (s .standing .output) + length bs)) h
-      (refused T Outcomes.outputExceeded s refl)
+      (refused T Outcomes.noOutputLeft s refl)
 
   module _ (t : Bytes) (Bs : List Body) (w : Standing) where
     -- bytes that lead from what was copied at depth q to what is copied at depth k
@@ -403,7 +377,7 @@ module _ (L : Limits) (T : Table) (digits : DigitsPlain T) where
   module _ (t : Bytes) (w : Standing) where
     -- `;` with a call open
     innermost-keeps : (cs : List Call) (Bs : List Body) → Keeps T (S.applyInnermost L cs) (stateOf t 0 cs Bs w)
-    innermost-keeps [] Bs g = refused T Outcomes.noCallToApply (stateOf t 0 [] Bs w) refl
+    innermost-keeps [] Bs g = refused T Outcomes.appliesNothing (stateOf t 0 [] Bs w) refl
     innermost-keeps (c ∷ cs) Bs g =
         charged endPrice (stateOf t 0 (c ∷ cs) Bs w)
         (λ s. S.perform L (deed (reading (s .bodies)) (listOf c) (s .standing .definitions)) c cs s)
@@ -416,7 +390,7 @@ module _ (L : Limits) (T : Table) (digits : DigitsPlain T) where
         → Keeps T (S.apply L own b) (stateOf t 0 cs Bs w)
     apply-keeps true b cs Bs m g = innermost-keeps cs Bs g
     apply-keeps false b cs [] m g = put-outside t [] w (b ∷ []) cs m g
-    apply-keeps false b cs (B ∷ Bs) m g = refused T Outcomes.noCallToApply (stateOf t 0 cs (B ∷ Bs) w) refl
+    apply-keeps false b cs (B ∷ Bs) m g = refused T Outcomes.appliesNothing (stateOf t 0 cs (B ∷ Bs) w) refl
 
     -- a parameter that is fetched
     supplied-keeps : (o : Bool) (p : Bytes) (cs : List Call) (Bs : List Body) → Matched T p
@@ -432,8 +406,8 @@ module _ (L : Limits) (T : Table) (digits : DigitsPlain T) where
       where
         go : (x : Bool) → leb 48 b ≡ x → (y : Bool) → leb b 57 ≡ y
             → Kept T (w .output) (S.fetchNumber L (cond (x && y) (some (b - 48)) none) (B .list) (stateOf t 0 cs (withRest r B ∷ Bs) w))
-        go false p y p′ = refused T Outcomes.noDigit (stateOf t 0 cs (withRest r B ∷ Bs) w) refl
-        go true p false p′ = refused T Outcomes.noDigit (stateOf t 0 cs (withRest r B ∷ Bs) w) refl
+        go false p y p′ = refused T Outcomes.parameterNotDigit (stateOf t 0 cs (withRest r B ∷ Bs) w) refl
+        go true p false p′ = refused T Outcomes.parameterNotDigit (stateOf t 0 cs (withRest r B ∷ Bs) w) refl
         go true p true p′ =
             let same-depth = depth-plain T 0 b r (digits .digit b (leb-true 48 b p) (leb-true b 57 p′)) in
             supplied-keeps (ltb (b - 48) (length (B .list))) (parameter (b - 48) (B .list)) cs (withRest r B ∷ Bs)
@@ -443,18 +417,18 @@ module _ (L : Limits) (T : Table) (digits : DigitsPlain T) where
     -- `~`
     fetch-keeps : (b : ℕ) (cs : List Call) (Bs : List Body) → Matched T (b ∷ []) → Keeps T (S.fetch L Bs b) (stateOf t 0 cs Bs w)
     fetch-keeps b [] [] m g = put-outside t [] w (b ∷ []) [] m g
-    fetch-keeps b (c ∷ cs) [] m g = refused T Outcomes.fetchInText (stateOf t 0 (c ∷ cs) [] w) refl
+    fetch-keeps b (c ∷ cs) [] m g = refused T Outcomes.parameterInText (stateOf t 0 (c ∷ cs) [] w) refl
     fetch-keeps b cs (B ∷ Bs) m g = go (B .rest) (g .bodies .0 .rest)
       where
         go : (r : Bytes) → Matched T r → Kept T (w .output) (S.fetchInBody L r B Bs (stateOf t 0 cs (B ∷ Bs) w))
-        go [] e = refused T Outcomes.noDigit (stateOf t 0 cs (B ∷ Bs) w) refl
+        go [] e = refused T Outcomes.parameterNotDigit (stateOf t 0 cs (B ∷ Bs) w) refl
         go (x ∷ r) e = number-keeps x r cs B Bs e g
 
     -- an unquoted `>`, which is not in a body
     unquote-keeps : (b : ℕ) (cs : List Call) (Bs : List Body) → BodiesLeft T none Bs → depthAfter T 0 (w .output) ≡ some (depthWritten 0 cs)
         → Kept T (w .output) (S.unquote L Bs cs b (stateOf t 0 cs Bs w))
     unquote-keeps b [] [] R O = record { unchanged = refl; matched = λ f. O }
-    unquote-keeps b (c ∷ cs) [] R O = refused T Outcomes.unquoteInCall (stateOf t 0 (c ∷ cs) [] w) refl
+    unquote-keeps b (c ∷ cs) [] R O = refused T Outcomes.quoteInCall (stateOf t 0 (c ∷ cs) [] w) refl
     unquote-keeps b cs (B ∷ Bs) R O = absurd R
 
     -- a byte that was taken at depth q: the bodies have moved on, what is collected has not
@@ -474,14 +448,14 @@ module _ (L : Limits) (T : Table) (digits : DigitsPlain T) where
 
     -- the end of the text
     text-end-keeps : (q : ℕ) (cs : List Call) → Keeps T (S.textEnd L q cs) (stateOf t q cs [] w)
-    text-end-keeps (suc q) cs g = refused T Outcomes.textEndedInQuotes (stateOf t (suc q) cs [] w) refl
-    text-end-keeps zero (c ∷ cs) g = refused T Outcomes.textEndedInCall (stateOf t 0 (c ∷ cs) [] w) refl
+    text-end-keeps (suc q) cs g = refused T Outcomes.textInQuotes (stateOf t (suc q) cs [] w) refl
+    text-end-keeps zero (c ∷ cs) g = refused T Outcomes.textInCall (stateOf t 0 (c ∷ cs) [] w) refl
     text-end-keeps zero [] g = record { unchanged = refl; matched = λ f. g .output }
 
     -- the end of a body, which is outside of quotes
     body-end-keeps : (own : Bool) (q : ℕ) (cs : List Call) (B : Body) (Bs : List Body) → q ≡ 0
         → Keeps T (S.bodyEnd L own B Bs) (stateOf t q cs (B ∷ Bs) w)
-    body-end-keeps true q cs B Bs e g = refused T Outcomes.bodyEndedInCall (stateOf t q cs (B ∷ Bs) w) refl
+    body-end-keeps true q cs B Bs e g = refused T Outcomes.bodyInCall (stateOf t q cs (B ∷ Bs) w) refl
     body-end-keeps false q cs B Bs e g =
         matches T (subst (λ (k : ℕ). Innermost (CallMatches T) k cs) e (g .calls)) (rw e at g .output)
         (of-all (BodyMatches T) (g .bodies .1)) (without-matches T (B .opened) (B .applied) (g .values))

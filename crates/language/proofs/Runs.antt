@@ -1,6 +1,5 @@
 -- Runs of the unlimited machine: what they come to and how long they last.
 use Prim.Native.Nat.{ℕ, zero, suc, _≤_, _+_}
-use native.Mathlib.Omega.{arith}
 use native.Mathlib.Nat.{zero-add, suc-add}
 use mathlib.Core.Path.{_≡_, refl, sym, _∙_}
 use lib.ListN.{length}
@@ -9,6 +8,7 @@ use Rattle.language.specs.Ends.{End}
 use Rattle.language.specs.Scanning.{State, Step, next, stop, noLimits}
 use Rattle.language.specs.Scanning as S
 use Rattle.language.specs.Substitution.{Held, Result, stretch, finish, deeper, _then_}
+use Rattle.language.proofs.Leads.{not-end, scans-stop}
 
 module _ (T : Table) where
   abbrev pub scan : State → Step
@@ -72,22 +72,14 @@ module _ (T : Table) where
 
   -- Gets and the run
 
-  pub differ : {A : Type 0} {s : State} {e : End} → next s ≡ stop e → A
-  differ p = let z : _≡_ {A = ℕ} 0 1 = cc in absurd (omega arith)
-
-  scansStop : (n : ℕ) (e : End) → scans n (stop e) ≡ stop e
-  unfolding S.scans
-  scansStop zero e = refl
-  scansStop (suc n) e = refl
-
   pub scansGets : (n : ℕ) (s : State) (e : End) → scans n (next s) ≡ stop e → Gets (stop e) s
   unfolding S.scans
-  scansGets zero s e p = differ p
+  scansGets zero s e p = not-end p
   scansGets (suc n) s e p = go (scan s) refl p (λ s′ p′. scansGets n s′ e p′)
     where
       go : (t : Step) → scan s ≡ t → scans n t ≡ stop e → ((s′ : State) → scans n (next s′) ≡ stop e → Gets (stop e) s′) → Gets (stop e) s
       go (next s′) q p ih = later q (ih s′ p)
-      go (stop e′) q p ih = now (q ∙ sym (scansStop n e′) ∙ p)
+      go (stop e′) q p ih = now (q ∙ sym (scans-stop noLimits T n e′) ∙ p)
 
   pub getsScans : {s : State} {e : End} → Gets (stop e) s → (n : ℕ) × (scans n (next s) ≡ stop e)
   unfolding S.scans
@@ -96,18 +88,18 @@ module _ (T : Table) where
 
   pub getsOnce : {s : State} {e e′ : End} → Gets (stop e) s → Gets (stop e′) s → e ≡ e′
   getsOnce (now p) (now p′) = cc
-  getsOnce (now p) (later p′ g′) = differ (sym p′ ∙ p)
-  getsOnce (later p g) (now p′) = differ (sym p ∙ p′)
+  getsOnce (now p) (later p′ g′) = not-end (sym p′ ∙ p)
+  getsOnce (later p g) (now p′) = not-end (sym p ∙ p′)
   getsOnce {e} {e′} (later {s′ = a} p g) (later {s′ = b} p′ g′) = let q : a ≡ b = cc in getsOnce g (rw (← q) at g′)
 
   -- a run that ends after n scans does not last longer
   pub notLonger : (n : ℕ) (s : State) (e : End) → scans n (next s) ≡ stop e → Lasts n s → ⊥
   unfolding S.scans
-  notLonger zero s e p l = differ p
+  notLonger zero s e p l = not-end p
   notLonger (suc n) s e p (one {s′ = s′} q l) = notLonger n s′ e (sym (rw q refl) ∙ p) l
 
   pub scansMore : (n k : ℕ) (t : Step) (e : End) → scans n t ≡ stop e → scans (n + k) t ≡ stop e
   unfolding S.scans
-  scansMore zero k t e p = rw (p, zero-add) (scansStop k e)
+  scansMore zero k t e p = rw (p, zero-add) (scans-stop noLimits T k e)
   scansMore (suc n) k (next s) e p = rw suc-add (scansMore n k (scan s) e p)
   scansMore (suc n) k (stop e′) e p = rw suc-add p

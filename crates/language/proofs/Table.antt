@@ -1,11 +1,11 @@
 -- The standard table: one computed test shows that exactly the six sign bytes are non-zero.
 use Prim.Native.Nat.{ℕ, suc}
 use mathlib.Core.Path.{_≡_, refl}
-use mathlib.Core.Bool.{Bool, true, false, cond}
+use mathlib.Core.Bool.{cond}
 use mathlib.Core.List.{List, [], _∷_}
 use lib.ListN.{length}
 use lib.Dec.{eqb}
-use Rattle.language.specs.Signs.{Bytes, ascii, Table, standard}
+use Rattle.language.specs.Signs.{ascii, Table, standard}
 
 -- the bytes from b on whose entry is not zero, each with its kind
 abbrev signsFrom : ℕ → Table → List (ℕ × ℕ)

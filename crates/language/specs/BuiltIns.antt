@@ -1,6 +1,6 @@
 -- Document 01: the built-ins, what each needs, its checks in their order and its result.
-use Prim.Native.Nat.{ℕ, zero, suc, _<_}
-use mathlib.Core.Bool.{Bool, true, false, cond}
+use Prim.Native.Nat.{ℕ}
+use mathlib.Core.Bool.{cond}
 use mathlib.Core.List.{List, [], _∷_}
 use lib.ListN.{length, getD}
 use lib.Dec.{ltb}
@@ -9,7 +9,9 @@ use Rattle.decimal.specs.Arithmetic.{Result, number, refused, calculated}
 use Rattle.decimal.specs.Shortest.{shortest}
 use Rattle.language.specs.Signs.{Bytes, ascii}
 use Rattle.language.specs.Outcomes
-use Rattle.language.specs.Definitions.{BuiltIn, def, val, update, arithmetic, Content, macro, builtIn, Definition, Found, found, missing, newest, among}
+use Rattle.language.specs.declared.built_ins.BuiltIn.{BuiltIn}
+use Rattle.language.specs.declared.built_ins.BuiltIn.the-variants.{Def, Val, Update, Arithmetic}
+use Rattle.language.specs.Definitions.{macro, builtIn, Definition, Found, found, missing, newest, among}
 
 -- "The built-in names are these fixed byte strings: `DEF`, `VAL`, `UPDATE`, `+`, `-`, `*`, `Quot`, `Rem`."
 abbrev pub named : Bytes → BuiltIn → Definition
@@ -17,22 +19,22 @@ named n b = record { name = n; content = builtIn b }
 
 abbrev pub builtIns : List Definition
 builtIns =
-    named (ascii "DEF") def ∷
-    named (ascii "VAL") val ∷
-    named (ascii "UPDATE") update ∷
-    named (ascii "+") (arithmetic Sum) ∷
-    named (ascii "-") (arithmetic Difference) ∷
-    named (ascii "*") (arithmetic Product) ∷
-    named (ascii "Quot") (arithmetic Quotient) ∷
-    named (ascii "Rem") (arithmetic Remainder) ∷
+    named (ascii "DEF") Def ∷
+    named (ascii "VAL") Val ∷
+    named (ascii "UPDATE") Update ∷
+    named (ascii "+") (Arithmetic Sum) ∷
+    named (ascii "-") (Arithmetic Difference) ∷
+    named (ascii "*") (Arithmetic Product) ∷
+    named (ascii "Quot") (Arithmetic Quotient) ∷
+    named (ascii "Rem") (Arithmetic Remainder) ∷
     []
 
 -- "VAL needs one parameter, the others two. Surplus parameters are ignored."
 abbrev pub needs : BuiltIn → ℕ
-needs def = 2
-needs val = 1
-needs update = 2
-needs (arithmetic op) = 2
+needs Def = 2
+needs Val = 1
+needs Update = 2
+needs (Arithmetic op) = 2
 
 -- parameter r of a call, 0 being its name
 abbrev pub parameter : ℕ → List Bytes → Bytes
@@ -50,15 +52,15 @@ pub data Deed : Type 0 where
 -- "VAL: 15, 19."
 abbrev pub valueOf : Found → Deed
 valueOf missing = faulty Outcomes.notDefined
-valueOf (found k (builtIn b)) = faulty Outcomes.isBuiltIn
+valueOf (found k (builtIn b)) = faulty Outcomes.builtIn
 valueOf (found k (macro v room)) = gives v
 
 -- "For UPDATE: 15 for the name given, 19, 20, 21."
 abbrev pub updateOf : List ℕ → Bytes → Found → Deed
 updateOf reading w missing = faulty Outcomes.notDefined
-updateOf reading w (found k (builtIn b)) = faulty Outcomes.isBuiltIn
+updateOf reading w (found k (builtIn b)) = faulty Outcomes.builtIn
 updateOf reading w (found k (macro v room)) =
-    cond (among k reading) (faulty Outcomes.bodyBeingRead) (cond (ltb room (length w)) (faulty Outcomes.valueTooLong) (alters k w))
+    cond (among k reading) (faulty Outcomes.bodyBeingRead) (cond (ltb room (length w)) (faulty Outcomes.updateTooLong) (alters k w))
 
 abbrev pub resultOf : Result → Deed
 resultOf (number z) = gives (shortest z)
@@ -66,10 +68,10 @@ resultOf (refused outcome) = faulty outcome
 
 -- a built-in that has its parameters, where the definitions ds stand and the bodies `reading` are being read
 abbrev pub performed : List ℕ → List Bytes → List Definition → BuiltIn → Deed
-performed reading list ds def = defines (parameter 1 list) (parameter 2 list)
-performed reading list ds val = valueOf (newest (parameter 1 list) ds)
-performed reading list ds update = updateOf reading (parameter 2 list) (newest (parameter 1 list) ds)
-performed reading list ds (arithmetic op) = resultOf (calculated op (parameter 1 list) (parameter 2 list))
+performed reading list ds Def = defines (parameter 1 list) (parameter 2 list)
+performed reading list ds Val = valueOf (newest (parameter 1 list) ds)
+performed reading list ds Update = updateOf reading (parameter 2 list) (newest (parameter 1 list) ds)
+performed reading list ds (Arithmetic op) = resultOf (calculated op (parameter 1 list) (parameter 2 list))
 
 -- "Checks at `;`: .. 15, 13, then the built-in's": the call with this name and parameters
 abbrev pub deedOf : List ℕ → List Bytes → List Definition → Found → Deed

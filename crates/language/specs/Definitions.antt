@@ -1,15 +1,11 @@
 -- Document 01: definitions, newest first, the built-ins the oldest of them.
-use Prim.Native.Nat.{ℕ, zero, suc, _+_, _-_}
+use Prim.Native.Nat.{ℕ, _+_, _-_}
 use mathlib.Core.Bool.{Bool, true, false, cond, _&&_, _||_}
 use mathlib.Core.List.{List, [], _∷_, _++_}
 use lib.ListN.{length, take, drop}
 use lib.Dec.{eqb}
 use Rattle.language.specs.Signs.{Bytes}
-use Rattle.decimal.specs.declared.operations.Operation.{Operation}
-
-pub data BuiltIn : Type 0 where
-  def val update : BuiltIn
-  arithmetic : Operation → BuiltIn
+use Rattle.language.specs.declared.built_ins.BuiltIn.{BuiltIn}
 
 -- "UPDATE changes the newest definition's value; its permitted length remains that of its DEF."
 pub data Content : Type 0 where

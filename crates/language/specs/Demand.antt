@@ -1,19 +1,17 @@
 -- Demand 3, as a statement about whole runs.
 use Prim.Native.Nat.{ℕ, _≤_}
 use mathlib.Core.Path.{_≡_}
-use mathlib.Core.Bool.{false}
 use mathlib.Core.List.{List}
-use mathlib.Core.Option.{some}
+use mathlib.Core.Option.{none, some}
 use mathlib.Core.Logic.{_↔_}
 use lib.ListN.{length}
 use lib.Dec.{T as So}
 use Rattle.language.specs.Signs.{Bytes, Table}
 use Rattle.language.specs.Outcomes.{endOfText}
 use Rattle.language.specs.Definitions.{Definition}
-use Rattle.language.specs.BuiltIns.{builtIns}
 use Rattle.language.specs.Ends.{End, reported}
 use Rattle.language.specs.Substitution.{substituted}
-use Rattle.language.specs.Product.{Left, tooLarge, overwritten}
+use Rattle.language.specs.Expansion.{Given, Returned, refusals, refusedBy, overwritten, expanded}
 
 -- Demand 3: substitution of the text comes to the end e at some depth, and what was lent is at least what it counted
 pub record Affords (T : Table) (text : Bytes) (ds : List Definition) (cells output allowance : ℕ) (e : End) : Type 0 where
@@ -23,16 +21,23 @@ pub record Affords (T : Table) (text : Bytes) (ds : List Definition) (cells outp
   pub enoughOutput : length (e .output) ≤ output
   pub enoughScans : e .scans ≤ allowance
 
+-- what a call is given affords the end e
+abbrev pub AffordsIn : Given → End → Type 0
+AffordsIn g e = Affords (g .table) (g .text) (g .definitions) (length (g .lent .cells)) (length (g .lent .output)) (g .allowance) e
+
 -- Demand 3: the end of a run is an end e that finishes or is a fault of the text, if and only if substitution comes to e and
 -- e can be afforded; e holds outcome, output, counts and standing definitions
 abbrev pub Demand3 : Table → Bytes → List Definition → ℕ → ℕ → ℕ → End → Type 0
 Demand3 T text ds cells output allowance run =
     (e : End) → ((run ≡ e) × So (endOfText (e .outcome))) ↔ Affords T text ds cells output allowance e
 
--- the same of what a caller sees of a run of the product: the report, and the output as it is left
-pub record Substitutes (T : Table) (allowance : ℕ) (text : Bytes) (cells : List ℕ) (output : Bytes) (left : Left) : Type 0 where
-  pub only : So (endOfText (left .report .outcome))
-      → (e : End) × Affords T text builtIns (length cells) (length output) allowance e × (left .report ≡ reported e)
-      × (left .output ≡ overwritten (e .output) output)
-  pub always : tooLarge text cells output ≡ false → (e : End) → Affords T text builtIns (length cells) (length output) allowance e
-      → So (endOfText (e .outcome)) × (left .report ≡ reported e) × (left .output ≡ overwritten (e .output) output)
+-- the same of what a caller sees of a whole run: the report, and the output as it is left
+pub record Substitutes (g : Given) (x : Returned) : Type 0 where
+  pub only : So (endOfText (x .report .outcome))
+      → (e : End) × AffordsIn g e × (x .report ≡ reported e) × (x .lent .output ≡ overwritten (e .output) (g .lent .output))
+  pub always : refusedBy refusals g ≡ none → (e : End) → AffordsIn g e
+      → So (endOfText (e .outcome)) × (x .report ≡ reported e) × (x .lent .output ≡ overwritten (e .output) (g .lent .output))
+
+-- What a whole run leaves, by both definitions: by scanning it is the run of document 01; by substitution demand 3 holds of it.
+abbrev pub Expanded : Given → Returned → Type 0
+Expanded g x = (x ≡ expanded g) × Substitutes g x

@@ -7,5 +7,6 @@ pub mod Ends
 pub mod Scanning
 pub mod Substitution
 pub mod Matched
-pub mod Product
+pub mod Octets
+pub mod Expansion
 pub mod Demand

@@ -1,6 +1,6 @@
 -- Document 01, One scan: the language by scanning.
-use Prim.Native.Nat.{ℕ, zero, suc, _+_, _-_, max}
-use mathlib.Core.Bool.{Bool, true, false, cond, _&&_}
+use Prim.Native.Nat.{ℕ, zero, suc, _+_, max}
+use mathlib.Core.Bool.{Bool, true, false, cond}
 use mathlib.Core.List.{List, [], _∷_, _++_}
 use mathlib.Core.Option.{Option, none, some}
 use lib.ListN.{length}
@@ -170,13 +170,13 @@ module _ (L : Limits) where
   abbrev pub charging : ℕ → State → (State → Step) → Step
   charging n s go =
       let r = go (noting (charge s + n) s) in
-      cond (allows (L .cells) (charge s + n)) r (ends Outcomes.cellsExceeded s)
+      cond (allows (L .cells) (charge s + n)) r (ends Outcomes.noCellsLeft s)
 
   -- 5: "the bytes of this scan would exceed the output lent"
   abbrev pub writing : Bytes → State → (State → Step) → Step
   writing bs s go =
       let r = go (withOutput (s .standing .output ++ bs) s) in
-      cond (allows (L .output) (length (s .standing .output) + length bs)) r (ends Outcomes.outputExceeded s)
+      cond (allows (L .output) (length (s .standing .output) + length bs)) r (ends Outcomes.noOutputLeft s)
 
   -- "They go to the argument being collected by the innermost open call, else to the output."
   abbrev pub putTo : List Call → Bytes → State → Step
@@ -213,14 +213,14 @@ module _ (L : Limits) where
 
   -- "Checks at `;`: 10, 4 for its own cell, 15, 13, then the built-in's, then 4, then 5."
   abbrev pub applyInnermost : List Call → State → Step
-  applyInnermost [] s = ends Outcomes.noCallToApply s
+  applyInnermost [] s = ends Outcomes.appliesNothing s
   applyInnermost (c ∷ cs) s =
       charging endPrice s (λ s. perform (deed (reading (s .bodies)) (listOf c) (s .standing .definitions)) c cs s)
 
   -- "`;` in the text with no open call is copied."
   abbrev pub applyNone : List Body → ℕ → State → Step
   applyNone [] b s = put (b ∷ []) s
-  applyNone (body ∷ bodies) b s = ends Outcomes.noCallToApply s
+  applyNone (body ∷ bodies) b s = ends Outcomes.appliesNothing s
 
   abbrev pub apply : Bool → ℕ → State → Step
   apply true b s = applyInnermost (s .calls) s
@@ -229,7 +229,7 @@ module _ (L : Limits) where
   -- "In the text, with no open call, `~` is copied as a plain byte."
   abbrev pub fetchInText : List Call → ℕ → State → Step
   fetchInText [] b s = put (b ∷ []) s
-  fetchInText (c ∷ cs) b s = ends Outcomes.fetchInText s
+  fetchInText (c ∷ cs) b s = ends Outcomes.parameterInText s
 
   -- "`~r` in a body copies parameter r (0 is the name) unscanned."
   abbrev pub fetchSupplied : Bool → Bytes → State → Step
@@ -237,11 +237,11 @@ module _ (L : Limits) where
   fetchSupplied false p s = ends Outcomes.notSupplied s
 
   abbrev pub fetchNumber : Option ℕ → List Bytes → State → Step
-  fetchNumber none list s = ends Outcomes.noDigit s
+  fetchNumber none list s = ends Outcomes.parameterNotDigit s
   fetchNumber (some k) list s = fetchSupplied (ltb k (length list)) (parameter k list) s
 
   abbrev pub fetchInBody : Bytes → Body → List Body → State → Step
-  fetchInBody [] body bodies s = ends Outcomes.noDigit s
+  fetchInBody [] body bodies s = ends Outcomes.parameterNotDigit s
   fetchInBody (b ∷ r) body bodies s = fetchNumber (parameterNumber b) (body .list) (withBodies (withRest r body ∷ bodies) s)
 
   abbrev pub fetch : List Body → ℕ → State → Step
@@ -250,8 +250,8 @@ module _ (L : Limits) where
 
   -- an unquoted `>`: 1 or 16 in the text. In a body, where it is shown never to stand, it is copied.
   abbrev pub unquote : List Body → List Call → ℕ → State → Step
-  unquote [] [] b s = ends Outcomes.finishedAtUnquote s
-  unquote [] (c ∷ cs) b s = ends Outcomes.unquoteInCall s
+  unquote [] [] b s = ends Outcomes.finishedAtQuote s
+  unquote [] (c ∷ cs) b s = ends Outcomes.quoteInCall s
   unquote (body ∷ bodies) cs b s = put (b ∷ []) s
 
   -- a byte that was taken from its source
@@ -266,14 +266,14 @@ module _ (L : Limits) where
 
   -- 17: "text ended inside quotes (before 18)"
   abbrev pub textEnd : ℕ → List Call → State → Step
-  textEnd (suc q) cs s = ends Outcomes.textEndedInQuotes s
-  textEnd zero (c ∷ cs) s = ends Outcomes.textEndedInCall s
+  textEnd (suc q) cs s = ends Outcomes.textInQuotes s
+  textEnd zero (c ∷ cs) s = ends Outcomes.textInCall s
   textEnd zero [] s = ends Outcomes.finished s
 
   -- "The end of a body ends its call: the list of name and parameters goes, with every definition made while it was
   -- collected. Definitions made in the body stay." That it is outside of quotes there is shown.
   abbrev pub bodyEnd : Bool → Body → List Body → State → Step
-  bodyEnd true body bodies s = ends Outcomes.bodyEndedInCall s
+  bodyEnd true body bodies s = ends Outcomes.bodyInCall s
   bodyEnd false body bodies s =
       next (withQuotes 0 (withBodies bodies (withDefinitions (without (body .opened) (body .applied) (s .standing .definitions)) s)))
 
@@ -312,7 +312,7 @@ start t ds = record {
 abbrev pub endOf : Step → End
 endOf (stop e) = e
 endOf (next s) = record {
-  outcome = Outcomes.allowanceUsed;
+  outcome = Outcomes.noScansLeft;
   output = s .standing .output;
   read = s .standing .read;
   scans = s .standing .scans;

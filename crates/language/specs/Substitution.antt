@@ -1,6 +1,6 @@
 -- Document 01, Substitution: the language by recursive substitution.
 use Prim.Native.Nat.{ℕ, zero, suc, _+_, _-_, max}
-use mathlib.Core.Bool.{Bool, true, false, cond}
+use mathlib.Core.Bool.{Bool, true, false}
 use mathlib.Core.List.{List, [], _∷_, _++_}
 use mathlib.Core.Option.{Option, none, some}
 use lib.ListN.{length}
@@ -223,7 +223,7 @@ module _ (nested : Eval) (go : Go) where
   -- "`;` and `~` in the text are plain", where no call is collected
   abbrev pub applyNone : Source → Collecting → ℕ → Bytes → Held → Result
   applyNone text c b r h = go 0 r (put c (b ∷ []) h)
-  applyNone (body list) c b r h = ends Outcomes.noCallToApply h
+  applyNone (body list) c b r h = ends Outcomes.appliesNothing h
 
   abbrev pub apply : Source → Collecting → ℕ → Bytes → Held → Result
   apply src own b r h = stretch r h
@@ -232,8 +232,8 @@ module _ (nested : Eval) (go : Go) where
 
   abbrev pub fetchInText : Collecting → ℕ → Bytes → Held → Result
   fetchInText noCall b r h = go 0 r (put noCall (b ∷ []) h)
-  fetchInText outer b r h = ends Outcomes.fetchInText h
-  fetchInText own b r h = ends Outcomes.fetchInText h
+  fetchInText outer b r h = ends Outcomes.parameterInText h
+  fetchInText own b r h = ends Outcomes.parameterInText h
 
   -- "`~r` is the parameter"
   abbrev pub fetchSupplied : Bool → Collecting → Bytes → Bytes → Held → Result
@@ -241,11 +241,11 @@ module _ (nested : Eval) (go : Go) where
   fetchSupplied false c p r h = ends Outcomes.notSupplied h
 
   abbrev pub fetchNumber : Option ℕ → List Bytes → Collecting → Bytes → Held → Result
-  fetchNumber none list c r h = ends Outcomes.noDigit h
+  fetchNumber none list c r h = ends Outcomes.parameterNotDigit h
   fetchNumber (some k) list c r h = fetchSupplied (ltb k (length list)) c (parameter k list) r h
 
   abbrev pub fetchInBody : List Bytes → Collecting → Bytes → Held → Result
-  fetchInBody list c [] h = ends Outcomes.noDigit h
+  fetchInBody list c [] h = ends Outcomes.parameterNotDigit h
   fetchInBody list c (b ∷ r) h = fetchNumber (parameterNumber b) list c r h
 
   abbrev pub fetch : Source → Collecting → ℕ → Bytes → Held → Result
@@ -254,9 +254,9 @@ module _ (nested : Eval) (go : Go) where
 
   -- "the end at a bare `>`"; in a body, where none ever stands, it is copied
   abbrev pub unquote : Source → Collecting → ℕ → Bytes → Held → Result
-  unquote text noCall b r h = ends Outcomes.finishedAtUnquote h
-  unquote text outer b r h = ends Outcomes.unquoteInCall h
-  unquote text own b r h = ends Outcomes.unquoteInCall h
+  unquote text noCall b r h = ends Outcomes.finishedAtQuote h
+  unquote text outer b r h = ends Outcomes.quoteInCall h
+  unquote text own b r h = ends Outcomes.quoteInCall h
   unquote (body list) c b r h = go 0 r (put c (b ∷ []) h)
 
   -- "Plain stretches stand for themselves, quoted ones lose one layer"
@@ -271,15 +271,15 @@ module _ (nested : Eval) (go : Go) where
 
 -- the end of the source
 abbrev pub textEnd : ℕ → Collecting → Held → Result
-textEnd (suc q) c h = ends Outcomes.textEndedInQuotes h
+textEnd (suc q) c h = ends Outcomes.textInQuotes h
 textEnd zero noCall h = stretch [] h
-textEnd zero outer h = ends Outcomes.textEndedInCall h
-textEnd zero own h = ends Outcomes.textEndedInCall h
+textEnd zero outer h = ends Outcomes.textInCall h
+textEnd zero own h = ends Outcomes.textInCall h
 
 abbrev pub bodyEnd : Collecting → Held → Result
 bodyEnd noCall h = stretch [] h
 bodyEnd outer h = stretch [] h
-bodyEnd own h = ends Outcomes.bodyEndedInCall h
+bodyEnd own h = ends Outcomes.bodyInCall h
 
 abbrev pub sourceEnd : Source → Collecting → ℕ → Held → Result
 sourceEnd text c q h = textEnd q c h

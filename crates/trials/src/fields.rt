@@ -5,23 +5,9 @@ ghost use lib.ListN.{length};
 // What `number` gives for a field that is none.
 const NONE: u32 = u32::MAX;
 
-// The position of the first such byte, or the length where there is none.
-fn find(text: &[u8], byte: u8) -> usize
-    ensures { λ r. ⌜ r ≤ length (now (text .entry)) ⌝ }
-{
-    let mut at = 0;
-    while at < text.len() {
-        if text[at] == byte {
-            return at;
-        }
-        at += 1;
-    }
-    at
-}
-
 // What stands before the first such byte, or all.
 pub(crate) fn up_to(text: &[u8], byte: u8) -> &[u8] {
-    let end = find(text, byte);
+    let end = bytes::scan::find(text, 0, text.len(), byte);
     &text[0..end]
 }
 
@@ -32,11 +18,11 @@ pub(crate) fn behind(text: &[u8], from: usize, byte: u8) -> usize
     if from >= text.len() {
         return text.len();
     }
-    let found = find(&text[from..], byte);
-    if found >= text.len() - from {
+    let found = bytes::scan::find(text, from, text.len(), byte);
+    if found >= text.len() {
         return text.len();
     }
-    from + found + 1
+    found + 1
 }
 
 // Where the field with this number starts, counted from 0.
@@ -44,10 +30,10 @@ fn start_of(row: &[u8], number: usize) -> usize
     ensures { λ r. ⌜ r ≤ length (now (row .entry)) ⌝ }
 {
     let mut at = 0;
-    let mut left = number;
-    while left > 0 {
+    let mut due = number;
+    while due > 0 {
         at = behind(row, at, b'\t');
-        left -= 1;
+        due -= 1;
     }
     at
 }

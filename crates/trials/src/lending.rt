@@ -29,7 +29,9 @@ pub(crate) fn is_right(text: &[u8], lent: Lent, report: Report, output: &[u8]) -
     if report.written != output.len() as u64 {
         return false;
     }
-    if !output_is_right(&bytes, output) {
+    let mut before = [0u8; ROOM];
+    pattern::fill_bytes(&mut before);
+    if !output_is_right(&bytes, output, &before) {
         return false;
     }
     cells_are_right(&cells, lent.cells, report.outcome)
@@ -81,7 +83,10 @@ fn is_same(a: Report, b: Report) -> bool {
 }
 
 // Whether the output stands at the start of the lent part and all else is as before.
-fn output_is_right(bytes: &[u8], output: &[u8]) -> bool {
+fn output_is_right(bytes: &[u8], output: &[u8], before: &[u8]) -> bool {
+    if bytes.len() != before.len() {
+        return false;
+    }
     if bytes.len() < MARGIN {
         return false;
     }
@@ -92,10 +97,10 @@ fn output_is_right(bytes: &[u8], output: &[u8]) -> bool {
     if !check::same(&bytes[MARGIN..end], output) {
         return false;
     }
-    if !pattern::has_bytes(bytes, 0, MARGIN) {
+    if !check::same(&bytes[0..MARGIN], &before[0..MARGIN]) {
         return false;
     }
-    pattern::has_bytes(bytes, end, bytes.len())
+    check::same(&bytes[end..], &before[end..])
 }
 
 // Whether the lent cells are zero, or as before with outcome 2, and all others as before.

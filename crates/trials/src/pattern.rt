@@ -24,21 +24,6 @@ pub(crate) fn fill_cells(cells: &mut [u32]) {
     }
 }
 
-// Whether the bytes from a position to an end are there and hold the pattern.
-pub(crate) fn has_bytes(bytes: &[u8], from: usize, end: usize) -> bool {
-    if end > bytes.len() {
-        return false;
-    }
-    let mut at = from;
-    while at < end {
-        if bytes[at] != byte_at(at) {
-            return false;
-        }
-        at += 1;
-    }
-    true
-}
-
 // Whether the cells from a position to an end are there and hold the pattern.
 pub(crate) fn has_cells(cells: &[u32], from: usize, end: usize) -> bool {
     if end > cells.len() {

@@ -47,7 +47,7 @@ returns c =
     let written = c .before .before .write-byte in
     let len = d .decimal .result in
     let whole =
-    up-to-item (a .line .now) (copied .last .1 .1 .0) (written .last .0) (take len (d .decimal .last .1 .0)) (a .at) len (a .end)
+    up-to-item (a .line .now) (copied .last .1 .0) (written .last .0) (take len (d .decimal .last .1 .0)) (a .at) len (a .end)
     (d .decimal .ensures .0 .1)
     (omega arith)
     (copied .ensures)

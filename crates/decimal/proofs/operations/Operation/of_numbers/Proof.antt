@@ -8,11 +8,11 @@ use Rattle.decimal.proofs.Results.{wide-ranged, passed}
 use Rattle.decimal.proofs.operations.Operation.of_numbers.Statement.{statement}
 use Rattle.decimal.proofs.operations.Operation.of_numbers.Tie as tie
 
-cast-left : tie.Need-cast-left
-cast-left c = cast-fits (c .fits .first)
+cast-a : tie.Need-cast-a
+cast-a c = cast-fits (c .fits .first)
 
-cast-right : tie.Need-cast-right
-cast-right c = cast-fits (c .fits .second)
+cast-b : tie.Need-cast-b
+cast-b c = cast-fits (c .fits .second)
 
 enum-told : tie.Need-enum-told
 enum-told c = search needs
@@ -86,4 +86,4 @@ returns-5 c =
 
 pub of-numbers-spec : {M : Type 1} → statement M
 of-numbers-spec =
-    tie.close (tie.spec cast-left cast-right enum-told add-ranged ranged-requires enum-told-2 sub-ranged ranged-requires-2 enum-told-3 mul-ranged ranged-requires-3 enum-told-4 quotient-requires enum-told-5 remainder-requires returns returns-2 returns-3 returns-4 returns-5)
+    tie.close (tie.spec cast-a cast-b enum-told add-ranged ranged-requires enum-told-2 sub-ranged ranged-requires-2 enum-told-3 mul-ranged ranged-requires-3 enum-told-4 quotient-requires enum-told-5 remainder-requires returns returns-2 returns-3 returns-4 returns-5)

@@ -1,0 +1,218 @@
+-- Scan after scan: what the exported call promises.
+use Prim.Native.Nat.{ℕ, suc, _+_, _-_, _≤_, _<_}
+use native.Mathlib.Omega.{arith}
+use mathlib.Core.Path.{_≡_, refl, sym, ap, subst, _∙_}
+use mathlib.Core.Bool.{Bool, true, false, cond, true≢false}
+use lib.ListN.{length, getD}
+use lib.Dec.{eqb, ltb}
+use borrow.Author.Tests.{ltb-false, leb-true, le-ltb, le-leb, eqb-true, eq-eqb}
+use Rattle.language.specs.Signs.{Bytes, Table, cellsLimit}
+use Rattle.language.specs.BuiltIns.{builtIns}
+use Rattle.language.specs.Scanning.{State, Step, next, stop, Limits}
+use Rattle.language.specs.Scanning as S
+use Rattle.language.specs.Expansion.{Lent, limitsOf}
+use Rattle.language.proofs.Leads.{onNext, scans-stop}
+use Rattle.language.proofs.Octets.{octets-kept}
+use Rattle.machine.specs.declared.run.Run.{Run}
+use Rattle.machine.specs.declared.run.Answer.the-variants.{GoesOn}
+use Rattle.machine.specs.declared.run.Stepped.{Stepped}
+use Rattle.machine.specs.Machine as M
+use Rattle.machine.specs.Machine.{After, Ready, InRange, lastScan}
+use Rattle.machine.specs.Held.{EndsAs}
+use Rattle.machine.specs.Moving.{isInRange, Holds, Comes, Advances}
+use Rattle.machine.proofs.Represents.{Simulates, goes, stops, outputSize}
+use Rattle.machine.proofs.Simulating.{stepSim}
+use Rattle.machine.proofs.Keeping.{Kept, stepKept}
+
+-- The test of a standing ---------------------------------------------------------------------------------------------
+
+-- a test that must fail, and one that must hold
+passes : (t : Bool) {x : Bool} → cond t false x ≡ true → (t ≡ false) × (x ≡ true)
+passes true e = absurd (true≢false (sym e))
+passes false e = (refl, e)
+
+holds : (t : Bool) {x : Bool} → cond t x false ≡ true → (t ≡ true) × (x ≡ true)
+holds true e = (refl, e)
+holds false e = absurd (true≢false (sym e))
+
+-- what passes is in range
+pub in-range : (r : Run) (n k : ℕ) → isInRange r n k ≡ true → InRange n k r
+in-range r n k e =
+    let a = passes (ltb cellsLimit n) e in
+    let b = passes (ltb n (r .right)) (a .1) in
+    let c = passes (ltb (r .right) (r .calls .left)) (b .1) in
+    let d = passes (ltb n (r .charge)) (c .1) in
+    let f = holds (eqb (r .charge + r .right) (r .calls .left + n)) (d .1) in
+    let g = passes (ltb cellsLimit (r .counts .live)) (f .1) in
+    let h = passes (ltb k (r .counts .written)) (g .1) in
+    let i = passes (ltb 65535 (r .calls .call)) (h .1) in
+    let j = passes (ltb 65536 (r .calls .hand)) (i .1) in
+    let o = passes (ltb 65535 (r .source .list)) (j .1) in
+    let p = passes (ltb 65535 (r .source .body)) (o .1) in
+    let q = passes (ltb 4294967296 (r .source .offset)) (p .1) in
+    record {
+      ready = record {
+        cellsLent = ltb-false _ _ (a .0);
+        ordered = ltb-false _ _ (c .0);
+        inside = ltb-false _ _ (b .0);
+        carried = eqb-true _ _ (f .0);
+        callBelow = ltb-false _ _ (i .0);
+        handBelow = ltb-false _ _ (j .0);
+        listBelow = ltb-false _ _ (o .0);
+        bodyBelow = ltb-false _ _ (p .0);
+        offsetBelow = ltb-false _ _ (q .0);
+        quotesBelow = omega (arith, leb-true (r .quotes) (r .counts .scans) (q .1));
+        liveBelow = ltb-false _ _ (g .0);
+      };
+      written = ltb-false _ _ (h .0);
+    }
+
+-- and what is in range passes
+pub range-in : (r : Run) (n k : ℕ) → InRange n k r → isInRange r n k ≡ true
+range-in r n k h =
+    let s = h .ready in
+    rw (
+      le-ltb cellsLimit n (s .cellsLent),
+      le-ltb n (r .right) (s .inside),
+      le-ltb (r .right) (r .calls .left) (s .ordered),
+      le-ltb n (r .charge) (omega (arith, s .carried, s .ordered, s .inside)),
+      eq-eqb (r .charge + r .right) (r .calls .left + n) (s .carried),
+      le-ltb cellsLimit (r .counts .live) (s .liveBelow),
+      le-ltb k (r .counts .written) (h .written),
+      le-ltb 65535 (r .calls .call) (s .callBelow),
+      le-ltb 65536 (r .calls .hand) (s .handBelow),
+      le-ltb 65535 (r .source .list) (s .listBelow),
+      le-ltb 65535 (r .source .body) (s .bodyBelow),
+      le-ltb 4294967296 (r .source .offset) (s .offsetBelow),
+      le-leb (r .quotes) (r .counts .scans) (omega (arith, s .quotesBelow)),
+    )
+
+-- Between two scans --------------------------------------------------------------------------------------------------
+
+module _ (T : Table) (text : Bytes) (n k : ℕ) where
+  abbrev L : Limits
+  L = limitsOf n k
+
+  -- the state that was come to, from which the rest leads where all leads
+  pub record Onward (start : Bytes) (all : Step) (r : Run) (m : Lent) (due : ℕ) : Type 0 where
+    pub state : State
+    pub held : Holds text start r m state
+    pub rest : all ≡ S.scans L T due (next state)
+
+  -- what the loop keeps until so many scans are made: r₀ and m₀ stood before its first one
+  pub record Going (r₀ : Run) (m₀ : Lent) (due₀ : ℕ) (r : Run) (m : Lent) (until : ℕ) : Type 0 where
+    pub cells : length (m .cells) ≡ n
+    pub output : length (m .output) ≡ k
+    pub small : (i : ℕ) → getD (m .cells) i 0 < 4294967296
+    pub inRange : InRange n k r
+    pub counted : until ≤ lastScan
+    pub onward : (start : Bytes) (s : State) → Holds text start r₀ m₀ s → Onward start (S.scans L T due₀ (next s)) r m (until - r .counts .scans)
+
+  pub begins : (r : Run) (m : Lent) (due : ℕ) → length (m .cells) ≡ n → length (m .output) ≡ k → ((i : ℕ) → getD (m .cells) i 0 < 4294967296)
+      → InRange n k r → r .counts .scans + due ≤ lastScan → Going r m due r m (r .counts .scans + due)
+  begins r m due c o b h t =
+      let all : due ≡ r .counts .scans + due - r .counts .scans = omega arith in
+      record {
+        cells = c;
+        output = o;
+        small = b;
+        inRange = h;
+        counted = t;
+        onward = λ start s x. record { state = s; held = x; rest = ap (λ (j : ℕ). S.scans L T j (next s)) all };
+      }
+
+  module _ {r₀ r : Run} {m₀ m : Lent} {due₀ until : ℕ} (g : Going r₀ m₀ due₀ r m until) (some : r .counts .scans < until)
+      (a : After) (e : a ≡ M.step r T text m) (cs : length (a .lent .cells) ≡ n) (os : length (a .lent .output) ≡ k) where
+    kept : Kept n k (r .counts .scans + 1) a
+    kept =
+        subst (Kept n k (r .counts .scans + 1)) (sym e)
+        (subst (λ (j : ℕ). Kept j k (r .counts .scans + 1) (M.step r T text m)) (g .cells)
+        (subst (λ (j : ℕ). Kept (length (m .cells)) j (r .counts .scans + 1) (M.step r T text m)) (g .output)
+        (stepKept m (g .small) r T text
+        (subst (λ (j : ℕ). InRange (length (m .cells)) j r) (sym (g .output)) (subst (λ (j : ℕ). InRange j k r) (sym (g .cells)) (g .inRange))))))
+
+    module _ {start : Bytes} {all : Step} (x : Onward start all r m (until - r .counts .scans)) where
+      simulated : Simulates n builtIns text start a (S.scan L T (x .state))
+      simulated =
+          let h = x .held .represents in
+          let size : length start ≡ k = sym (outputSize (h .shows)) ∙ g .output in
+          subst (λ (y : After). Simulates n builtIns text start y (S.scan L T (x .state))) (sym e)
+          (subst (λ (j : ℕ). Simulates n builtIns text start (M.step r T text m) (S.scan (limitsOf n j) T (x .state))) size
+          (subst (λ (j : ℕ). Simulates j builtIns text start (M.step r T text m) (S.scan (limitsOf j (length start)) T (x .state))) (g .cells)
+          (stepSim T h (x .held .octets))))
+
+      -- what the scan comes to leads where all leads
+      leads : (t : Step) → S.scan L T (x .state) ≡ t → all ≡ S.scans L T (until - (r .counts .scans + 1)) t
+      unfolding S.scans
+      leads t q =
+          let more : until - r .counts .scans ≡ suc (until - (r .counts .scans + 1)) = omega arith in
+          x .rest ∙ ap (λ (j : ℕ). S.scans L T j (next (x .state))) more ∙ ap (λ (y : Step). S.scans L T (until - (r .counts .scans + 1)) y) q
+
+      goesOnto : a .answer ≡ GoesOn → Onward start all (a .run) (a .lent) (until - a .run .counts .scans)
+      goesOnto out = go (S.scan L T (x .state)) refl simulated
+        where
+          go : (t : Step) → S.scan L T (x .state) ≡ t → Simulates n builtIns text start a t → Onward start all (a .run) (a .lent) (until - a .run .counts .scans)
+          go (next s) q (goes p h) = record {
+            state = s;
+            held = record {
+              represents = rw cs h;
+              octets = onNext (octets-kept L T (x .state) (x .held .octets)) q;
+              inRange = rw (cs, os) (kept .kept out);
+            };
+            rest = leads (next s) q ∙ ap (λ (j : ℕ). S.scans L T (until - j) (next s)) (sym (kept .counted out));
+          }
+          go (stop y) q (stops h) = let z : _≡_ {A = ℕ} 0 1 = cc (h .answer) in absurd (omega arith)
+
+      endsHere : (st : Stepped) (m′ : Lent) → a ≡ M.leaves st m′ → (a .answer ≡ GoesOn → ⊥) → Comes text start st m′ all
+      endsHere st m′ is out = go (S.scan L T (x .state)) refl simulated
+        where
+          go : (t : Step) → S.scan L T (x .state) ≡ t → Simulates n builtIns text start a t → Comes text start st m′ all
+          go (next s) q (goes p h) = absurd (out p)
+          go (stop y) q (stops h) =
+              let lead : all ≡ stop y = leads (stop y) q ∙ scans-stop L T (until - (r .counts .scans + 1)) y in
+              rw lead (rw (ap (λ (j : After). length (j .lent .cells)) (sym is) ∙ cs) (subst (λ (j : After). EndsAs n builtIns start j y) is h))
+
+    -- one more scan is made
+    pub onceMore : a .answer ≡ GoesOn → a .run .counts .scans ≡ r .counts .scans + 1
+    onceMore out = kept .counted out
+
+    pub again : ((i : ℕ) → getD (a .lent .cells) i 0 < 4294967296) → a .answer ≡ GoesOn → Going r₀ m₀ due₀ (a .run) (a .lent) until
+    again b out = record {
+      cells = cs;
+      output = os;
+      small = b;
+      inRange = kept .kept out;
+      counted = g .counted;
+      onward = λ start s h. goesOnto (g .onward start s h) out;
+    }
+
+    pub ends : (st : Stepped) (m′ : Lent) → a ≡ M.leaves st m′ → (a .answer ≡ GoesOn → ⊥)
+        → length (m₀ .cells) ≡ n → length (m₀ .output) ≡ k → Advances T text due₀ r₀ m₀ st m′
+    ends st m′ is out c o =
+        let told : st .answer ≡ a .answer = ap (λ (j : After). j .answer) (sym is) in
+        record {
+          answered = λ q. kept .told (sym told ∙ q);
+          ranged = λ q. absurd (out (sym told ∙ q));
+          moves = λ start s h. rw (c, o) (endsHere (g .onward start s h) st m′ is out);
+        }
+
+  -- a scan can be made
+  pub readyOf : {r₀ r : Run} {m₀ m : Lent} {due₀ until : ℕ} → Going r₀ m₀ due₀ r m until → r .counts .scans < until
+      → Ready (length (m .cells)) r × (r .counts .scans < lastScan) × (r .counts .written ≤ length (m .output))
+  readyOf {r = r} g some =
+      let h = g .inRange in
+      (subst (λ (j : ℕ). Ready j r) (sym (g .cells)) (h .ready), omega (arith, g .counted), omega (arith, h .written, g .output))
+
+  -- the last scan that was due is made
+  pub done : {r₀ r : Run} {m₀ m : Lent} {due₀ until : ℕ} → Going r₀ m₀ due₀ r m until → until ≤ r .counts .scans → length (m₀ .cells) ≡ n → length (m₀ .output) ≡ k
+      → Advances T text due₀ r₀ m₀ (record { run = r; answer = GoesOn }) m
+  unfolding S.scans
+  done {r = r} {due₀ = due₀} {until} g over c o = record {
+    answered = λ q. let z : _≡_ {A = ℕ} 0 1 = cc in omega arith;
+    ranged = λ q. rw (c, o) (g .inRange);
+    moves = λ start s h.
+        let x = g .onward start s h in
+        let none : until - r .counts .scans ≡ 0 = omega arith in
+        let at : S.scans L T due₀ (next s) ≡ next (x .state) = x .rest ∙ ap (λ (j : ℕ). S.scans L T j (next (x .state))) none in
+        rw (c, o) (rw at (refl, x .held));
+  }

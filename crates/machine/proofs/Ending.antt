@@ -1,0 +1,337 @@
+-- The end of a body: its list goes, with the definitions made while it was collected.
+use Prim.Native.Nat.{ℕ, _+_, _-_, _≤_, _<_, zero-le}
+use native.Mathlib.Omega.{arith}
+use mathlib.Core.Path.{_≡_, refl, sym, ap, subst, _∙_}
+use mathlib.Core.Bool.{Bool, true, false}
+use mathlib.Core.List.{List, [], _∷_, _++_, append-assoc, append-nil}
+use lib.ListN.{length, take, drop, getD, length-append}
+use lib.Seq.{getD-take, take-take, take-at, drop-at, drop-drop}
+use lib.Dec.{eqb, ltb}
+use borrow.Author.Tests.{le-ltb, eq-eqb, ne-eqb, ltb-false}
+use Rattle.language.specs.Outcomes
+use Rattle.language.specs.Signs.{Bytes}
+use Rattle.language.specs.Definitions.{Definition, newer, oldest, without}
+use Rattle.language.specs.Charge.{argumentsPrice, listPrice, definitionsPrice}
+use Rattle.language.specs.Scanning.{State, Call, Body, callsBelow}
+use Rattle.language.specs.Scanning as S
+use Rattle.language.specs.Expansion.{limitsOf, lent}
+use Rattle.memory.specs.Block.{placed, block, moved}
+use Rattle.memory.proofs.Blocks.{moved-in, take-placed, drop-placed, placed-length}
+use Rattle.machine.specs.declared.run.Run.{Run}
+use Rattle.machine.specs.Walks.{listOverhead, nowhere, packed, high, low, definitions}
+use Rattle.machine.specs.Machine as M
+use Rattle.machine.proofs.Items.{encode-append, width-append, width-cons, count-append, definitions-append, list-size}
+use Rattle.machine.proofs.Stack.{noCall}
+use Rattle.machine.proofs.Moves.{Collects, madeAll, madeLaid, madeLefts, madeCalls, madeBodies, madeValid, unmadeValid, OwnBody, ownBodyOf}
+use Rattle.machine.proofs.Represents.{Simulates, goes}
+use Rattle.machine.proofs.Finds.{ListAt, list-at, definitions-count, body-below, offset-below}
+use Rattle.machine.proofs.Putting.{refusal, callBefore}
+use Rattle.machine.proofs.Opening.{listBelow, ownTest}
+use Rattle.machine.specs.Items.{Item, width, encode, definitionsOf, count}
+use Rattle.machine.specs.Frames.{Places, Frame, reads, address, applying, listItem, laid, items, places, lefts, calls, bodies, Valid}
+use Rattle.machine.specs.Held.{Represents, placesOf}
+use Rattle.machine.proofs.Lists.{packed-low, packed-high}
+
+-- a list has a name at least
+listAtLeast : (list : List Bytes) → 0 < length list → 5 ≤ listPrice list
+unfolding argumentsPrice
+listAtLeast [] h = absurd (omega arith)
+listAtLeast (a ∷ more) h = omega arith
+
+-- the definitions that are left where those between two moments go
+pub without-items : (since collected under : List Item) (older : List Definition) (opened applied : ℕ)
+    → opened ≡ length older + count under → applied ≡ length older + count (collected ++ under)
+    → without opened applied (definitionsOf (since ++ (collected ++ under)) ++ older) ≡ definitionsOf (since ++ under) ++ older
+without-items since collected under older opened applied e f =
+    let ds = definitionsOf (since ++ (collected ++ under)) ++ older in
+    let split : ds ≡ definitionsOf since ++ (definitionsOf (collected ++ under) ++ older) =
+    ap (λ (x : List Definition). x ++ older) (definitions-append since (collected ++ under)) ∙ append-assoc (definitionsOf since) (definitionsOf (collected ++ under)) older in
+    let split₂ : ds ≡ (definitionsOf since ++ definitionsOf collected) ++ (definitionsOf under ++ older) =
+    split
+    ∙ ap (λ (x : List Definition). definitionsOf since ++ (x ++ older)) (definitions-append collected under)
+    ∙ ap (λ (x : List Definition). definitionsOf since ++ x) (append-assoc (definitionsOf collected) (definitionsOf under) older)
+    ∙ sym (append-assoc (definitionsOf since) (definitionsOf collected) (definitionsOf under ++ older)) in
+    let size : length ds ≡ count since + (count (collected ++ under) + length older) =
+    ap length split ∙ omega (arith, length-append (definitionsOf since) (definitionsOf (collected ++ under) ++ older), length-append (definitionsOf (collected ++ under)) older) in
+    let part = count-append collected under in
+    let new : newer applied ds ≡ definitionsOf since =
+    ap (λ (x : List Definition). take (length ds - applied) x) split
+    ∙ take-at (definitionsOf since) (definitionsOf (collected ++ under) ++ older) (length ds - applied) (omega arith) in
+    let old : oldest opened ds ≡ definitionsOf under ++ older =
+    ap (λ (x : List Definition). drop (length ds - opened) x) split₂
+    ∙ drop-at (definitionsOf since ++ definitionsOf collected) (definitionsOf under ++ older) (length ds - opened)
+    (omega (arith, length-append (definitionsOf since) (definitionsOf collected))) in
+    ap (λ (x : List Definition). x ++ oldest opened ds) new
+    ∙ ap (λ (x : List Definition). definitionsOf since ++ x) old
+    ∙ sym (append-assoc (definitionsOf since) (definitionsOf under) older)
+    ∙ ap (λ (x : List Definition). x ++ older) (sym (definitions-append since under))
+
+-- Whether a call of the body being read is open: the code's test is the scanning's.
+pub ownIs : {n : ℕ} {older : List Definition} {whole start : List ℕ} {r : Run} {l o : List ℕ} {s : State}
+    → Represents n older whole start r (lent l o) s → M.ownCall r l ≡ S.ownCall s
+ownIs {n} {older} {whole} {start} {r} {l} {o} {s} h = go (calls n b fs) refl
+  where
+    b : ℕ
+    b = length older
+
+    fs : List Frame
+    fs = h .frames
+
+    callEq : r .calls .call ≡ places n b fs .call
+    callEq = ap (λ (p : Places). p .call) (h .placesAre)
+
+    abstract′ : S.ownCall s ≡ ltb (callsBelow (bodies n b fs)) (length (calls n b fs))
+    abstract′ = ap (λ (x : List Body). ltb (callsBelow x) (length (s .calls))) (h .bodiesAre) ∙ ap (λ (x : List Call). ltb (callsBelow (bodies n b fs)) (length x)) (h .callsAre)
+
+    go : (cs : List Call) → calls n b fs ≡ cs → M.ownCall r l ≡ S.ownCall s
+    go [] e =
+        let q : eqb (r .calls .call) nowhere ≡ true = eq-eqb _ _ (callEq ∙ noCall n b fs e) in
+        rw q (sym (abstract′ ∙ ap (λ (x : List Call). ltb (callsBelow (bodies n b fs)) (length x)) e ∙ le-ltb (callsBelow (bodies n b fs)) 0 zero-le))
+    go (k ∷ cs) e =
+        let c : Collects n b fs = rw e (omega arith) in
+        let g : r .calls .left ≡ places n b fs .left = ap (λ (p : Places). p .left) (h .placesAre) in
+        let before = callBefore n b fs c in
+        let q : eqb (r .calls .call) nowhere ≡ false = ne-eqb (r .calls .call) nowhere (λ (z : r .calls .call ≡ nowhere). absurd (omega (arith, callEq, h .ordered, h .shows .stands .right, h .cellsLent))) in
+        let cellEq : getD l (r .calls .call + 1) 0 ≡ getD (lefts n b fs) (places n b fs .call + 1) 0 =
+        sym (getD-take (r .calls .left) l (r .calls .call + 1) 0 (omega (arith, callEq))) ∙ ap (λ (x : List ℕ). getD x (r .calls .call + 1) 0) (h .leftsAre) ∙ ap (λ (x : ℕ). getD (lefts n b fs) (x + 1) 0) callEq in
+        let listEq : r .source .list ≡ places n b fs .list = ap (λ (p : Places). p .list) (h .placesAre) in
+        rw q (ap (λ (x : ℕ). eqb x (r .source .list)) cellEq ∙ ap (λ (x : ℕ). eqb (getD (lefts n b fs) (places n b fs .call + 1) 0) x) listEq
+        ∙ ownTest n b (h .cellsLent) fs c (omega (arith, h .shows .stands .right)) ∙ sym abstract′)
+
+-- what the frames say where the body being read is the innermost of them
+module _ {n : ℕ} {older : List Definition} {whole start : List ℕ} {r : Run} {l o : List ℕ} {s : State}
+    (h : Represents n older whole start r (lent l o) s) (x : OwnBody n (length older) (h .frames)) where
+  abbrev b′ : ℕ
+  b′ = length older
+
+  abbrev U : List Item
+  U = items n b′ (x .under)
+
+  abbrev I : Item
+  I = listItem (places n b′ (x .under)) (address n U) (x .list)
+
+  abbrev R : Frame
+  R = reads (x .list) (x .collected) (x .at) (x .number) (x .value) (x .offset)
+
+  itemsIs : items n b′ (h .frames) ≡ x .since ++ (I ∷ (x .collected ++ U))
+  unfolding laid
+  itemsIs = ap (items n b′) (x .is) ∙ madeLaid n b′ (x .since) (R ∷ x .under) (x .definitions) .0
+
+  placesIs : placesOf r ≡ applying (places n b′ (x .under)) (address n (I ∷ (x .collected ++ U))) (x .at) (x .offset)
+  unfolding laid
+  placesIs = h .placesAre ∙ ap (places n b′) (x .is) ∙ madeLaid n b′ (x .since) (R ∷ x .under) (x .definitions) .1
+
+  leftsIs : take (r .calls .left) l ≡ lefts n b′ (x .under)
+  unfolding lefts
+  leftsIs = h .leftsAre ∙ ap (lefts n b′) (x .is) ∙ madeLefts n b′ (x .since) (R ∷ x .under)
+
+  callsIs : s .calls ≡ calls n b′ (x .under)
+  unfolding calls
+  callsIs = h .callsAre ∙ ap (calls n b′) (x .is) ∙ madeCalls n b′ (x .since) (R ∷ x .under)
+
+  abbrev bodyIs : Body
+  bodyIs = record {
+    number = x .number;
+    list = x .list;
+    rest = drop (x .offset) (x .value);
+    calls = length (calls n b′ (x .under));
+    opened = b′ + count U;
+    applied = b′ + count (x .collected ++ U);
+  }
+
+  bodiesIs : s .bodies ≡ bodyIs ∷ bodies n b′ (x .under)
+  unfolding bodies
+  bodiesIs = h .bodiesAre ∙ ap (bodies n b′) (x .is) ∙ madeBodies n b′ (x .since) (R ∷ x .under)
+
+  validIs : Valid n b′ (R ∷ x .under)
+  validIs = unmadeValid n b′ (x .since) (R ∷ x .under) (subst (Valid n b′) (x .is) (h .valid))
+
+  countsIs : count (items n b′ (h .frames)) ≡ count (x .since) + (count (x .collected) + count U)
+  unfolding definitionsOf
+  countsIs =
+      ap length (ap definitionsOf itemsIs ∙ definitions-append (x .since) (I ∷ (x .collected ++ U)) ∙ sym (definitions-append (x .since) (x .collected ++ U)))
+      ∙ count-append (x .since) (x .collected ++ U)
+      ∙ ap (λ (k : ℕ). count (x .since) + k) (count-append (x .collected) U)
+
+  -- Where things stand.
+  abbrev A : ℕ
+  A = address n (I ∷ (x .collected ++ U))
+
+  abbrev to : ℕ
+  to = address n U
+
+  listEq : r .source .list ≡ A
+  listEq = ap (λ (p : Places). p .list) placesIs
+
+  widths : (width (I ∷ (x .collected ++ U)) ≡ listPrice (x .list) + (width (x .collected) + width U)) × (r .right + (width (x .since) + width (I ∷ (x .collected ++ U))) ≡ n)
+  widths = (
+    omega (
+      arith,
+      width-cons I (x .collected ++ U),
+      list-size (address n U) (packed (listPrice (x .list) - listOverhead) (places n b′ (x .under) .list)) (packed (places n b′ (x .under) .body) (places n b′ (x .under) .offset)) (x .list),
+      width-append (x .collected) U,
+    ),
+    omega (arith, h .shows .stands .right, ap width itemsIs, width-append (x .since) (I ∷ (x .collected ++ U))),
+  )
+
+  cellsFrom : drop (r .right) l ≡ encode (x .since) ++ encode (I ∷ (x .collected ++ U))
+  cellsFrom = h .shows .stands .cells ∙ ap encode itemsIs ∙ encode-append (x .since) (I ∷ (x .collected ++ U))
+
+  cellsAt : drop A l ≡ encode (I ∷ (x .collected ++ U)) ++ []
+  cellsAt =
+      let w = widths in
+      let q : A ≡ r .right + width (x .since) = omega (arith, w .1) in
+      ap (λ (k : ℕ). drop k l) q
+      ∙ sym (drop-drop (width (x .since)) (r .right) l)
+      ∙ ap (drop (width (x .since))) cellsFrom
+      ∙ drop-at (encode (x .since)) (encode (I ∷ (x .collected ++ U))) (width (x .since)) refl
+      ∙ sym (append-nil (encode (I ∷ (x .collected ++ U))))
+
+  lists : ListAt l A (address n U) (packed (listPrice (x .list) - listOverhead) (places n b′ (x .under) .list))
+      (packed (places n b′ (x .under) .body) (places n b′ (x .under) .offset)) (x .list) (encode (x .collected ++ U) ++ [])
+  lists = list-at l A _ _ _ (x .list) (x .collected ++ U) [] cellsAt
+
+  -- the definitions that go are those made while the list was collected
+  goneIs : definitions l (A + listPrice (x .list)) to ≡ count (x .collected)
+  unfolding Valid
+  goneIs =
+      let w = widths in
+      let e : A + listPrice (x .list) + width (x .collected) ≡ to = omega (arith, w .0, w .1) in
+      let d : drop (A + listPrice (x .list)) l ≡ encode (x .collected) ++ encode U =
+      lists .behind ∙ append-nil (encode (x .collected ++ U)) ∙ encode-append (x .collected) U in
+      subst (λ (k : ℕ). definitions l (A + listPrice (x .list)) k ≡ count (x .collected)) e
+      (definitions-count l (A + listPrice (x .list)) (x .collected) (encode U) d (validIs .1) (omega (arith, w .0, w .1, h .shows .stands .size)))
+
+  -- the definitions made in the body move up to where the others end
+  abbrev upTo : ℕ
+  upTo = r .right + (to - r .source .list)
+
+  movedIs : moved (r .right) upTo (r .source .list - r .right) l ≡ placed upTo (encode (x .since)) l
+  movedIs =
+      let w = widths in
+      let q : r .source .list - r .right ≡ width (x .since) = omega (arith, listEq, w .1) in
+      let blockIs : block (r .right) (r .source .list - r .right) l ≡ encode (x .since) =
+      ap (take (r .source .list - r .right)) cellsFrom
+      ∙ take-at (encode (x .since)) (encode (I ∷ (x .collected ++ U))) (r .source .list - r .right) (sym q) in
+      moved-in (r .right) upTo (r .source .list - r .right) l (omega (arith, listEq, w .0, w .1, h .shows .stands .size)) (omega (arith, listEq, w .0, w .1, h .shows .stands .size))
+      ∙ ap (λ (k : List ℕ). placed upTo k l) blockIs
+
+  -- the standing once the body has ended
+  endsBody : Represents n older whole start
+      (M.bodyEnded r to (packed (listPrice (x .list) - listOverhead) (places n b′ (x .under) .list)) (packed (places n b′ (x .under) .body) (places n b′ (x .under) .offset)) (count (x .collected)))
+      (lent (placed upTo (encode (x .since)) l) o)
+      (S.withQuotes 0 (S.withBodies (bodies n b′ (x .under)) (S.withDefinitions (without (b′ + count U) (b′ + count (x .collected ++ U)) (s .standing .definitions)) s)))
+  unfolding Valid definitionsOf
+  endsBody =
+      let w = widths in
+      let ml = madeLaid n b′ (x .since) (x .under) (x .definitions) in
+      let p = places n b′ (x .under) in
+      let fit : upTo + width (x .since) ≤ length l = omega (arith, listEq, w .0, w .1, h .shows .stands .size) in
+      let inner : width U ≤ n = omega (arith, listEq, w .0, w .1) in
+      let lowList : low (packed (listPrice (x .list) - listOverhead) (p .list)) ≡ p .list = packed-low (listPrice (x .list) - listOverhead) (p .list) (omega (arith, listBelow n b′ (h .cellsLent) (x .under) inner)) in
+      let highBody : high (packed (p .body) (p .offset)) ≡ p .body = packed-high (p .body) (p .offset) (body-below n b′ (h .cellsLent) (x .under) (validIs .0)) in
+      let lowOffset : low (packed (p .body) (p .offset)) ≡ p .offset = packed-low (p .body) (p .offset) (offset-below n b′ (h .cellsLent) (x .under) (validIs .0) inner) in
+      let ds : definitionsOf (items n b′ (h .frames)) ≡ definitionsOf (x .since ++ (x .collected ++ U)) =
+      ap definitionsOf itemsIs ∙ definitions-append (x .since) (I ∷ (x .collected ++ U)) ∙ sym (definitions-append (x .since) (x .collected ++ U)) in
+      let counts : count (items n b′ (h .frames)) ≡ count (x .since) + (count (x .collected) + count U) =
+      ap length ds ∙ count-append (x .since) (x .collected ++ U) ∙ ap (λ (k : ℕ). count (x .since) + k) (count-append (x .collected) U) in
+      record {
+        frames = madeAll (x .since) (x .under);
+        valid = madeValid n b′ (x .since) (x .under) (validIs .0);
+        shows = rw (ml .0) (record {
+          stands = record {
+            size = placed-length upTo (encode (x .since)) l fit ∙ h .shows .stands .size;
+            right = omega (arith, listEq, w .0, w .1, width-append (x .since) U);
+            cells =
+                drop-placed upTo (encode (x .since)) l (omega arith)
+                ∙ ap (λ (k : ℕ). encode (x .since) ++ drop k l) (let e : upTo + width (x .since) ≡ A + listPrice (x .list) + width (x .collected) = omega (arith, listEq, w .0, w .1) in e)
+                ∙ ap (λ (k : List ℕ). encode (x .since) ++ k)
+                (sym (drop-drop (width (x .collected)) (A + listPrice (x .list)) l)
+                ∙ ap (drop (width (x .collected))) (lists .behind ∙ append-nil (encode (x .collected ++ U)) ∙ encode-append (x .collected) U)
+                ∙ drop-at (encode (x .collected)) (encode U) (width (x .collected)) refl)
+                ∙ sym (encode-append (x .since) U);
+            definitions =
+                ap (without (b′ + count U) (b′ + count (x .collected ++ U))) (h .shows .stands .definitions ∙ ap (λ (k : List Definition). k ++ older) ds)
+                ∙ without-items (x .since) (x .collected) U older (b′ + count U) (b′ + count (x .collected ++ U)) refl refl;
+            live = omega (arith, h .shows .stands .live, counts, count-append (x .since) U);
+          };
+          read = h .shows .read;
+          scans = h .shows .scans;
+          most = h .shows .most;
+          wrote = h .shows .wrote;
+        });
+        cellsLent = h .cellsLent;
+        ordered = omega (arith, h .ordered);
+        carried = omega (arith, listEq, h .carried, h .ordered, w .0, w .1);
+        placesAre =
+            ap (λ (k : ℕ). record { left = r .calls .left; call = r .calls .call; hand = r .calls .hand; list = k; body = high (packed (p .body) (p .offset)); offset = low (packed (p .body) (p .offset)) }) lowList
+            ∙ ap (λ (k : ℕ). record { left = r .calls .left; call = r .calls .call; hand = r .calls .hand; list = p .list; body = k; offset = low (packed (p .body) (p .offset)) }) highBody
+            ∙ ap (λ (k : ℕ). record { left = r .calls .left; call = r .calls .call; hand = r .calls .hand; list = p .list; body = p .body; offset = k }) lowOffset
+            ∙ ap (λ (k : Places). record { left = k .left; call = k .call; hand = k .hand; list = p .list; body = p .body; offset = p .offset }) placesIs
+            ∙ sym (ml .1);
+        leftsAre =
+            sym (take-take (r .calls .left) upTo (placed upTo (encode (x .since)) l) (omega (arith, h .ordered)))
+            ∙ ap (take (r .calls .left)) (take-placed upTo (encode (x .since)) l (omega arith))
+            ∙ take-take (r .calls .left) upTo l (omega (arith, h .ordered))
+            ∙ leftsIs
+            ∙ sym (madeLefts n b′ (x .since) (x .under));
+        callsAre = callsIs ∙ sym (madeCalls n b′ (x .since) (x .under));
+        bodiesAre = sym (madeBodies n b′ (x .since) (x .under));
+        ahead = h .ahead;
+        quotes = refl;
+      }
+
+  -- the code comes to that standing
+  endsTo : M.endBodyTo r (getD l (r .source .list) 0) (getD l (r .source .list + 1) 0) (getD l (r .source .list + 2) 0)
+      (definitions l (r .source .list + high (getD l (r .source .list + 1) 0) + 5) (getD l (r .source .list) 0)) (lent l o)
+      ≡ M.goes (M.bodyEnded r to (packed (listPrice (x .list) - listOverhead) (places n b′ (x .under) .list)) (packed (places n b′ (x .under) .body) (places n b′ (x .under) .offset)) (count (x .collected)))
+      (lent (placed upTo (encode (x .since)) l) o)
+  unfolding Valid argumentsPrice
+  endsTo =
+      let w = widths in
+      let p = places n b′ (x .under) in
+      let named : 5 ≤ listPrice (x .list) = listAtLeast (x .list) (validIs .4) in
+      let links = packed (listPrice (x .list) - listOverhead) (p .list) in
+      let toEq : getD l (r .source .list) 0 ≡ to = ap (λ (k : ℕ). getD l k 0) listEq ∙ lists .toIs in
+      let linksEq : getD l (r .source .list + 1) 0 ≡ links = ap (λ (k : ℕ). getD l (k + 1) 0) listEq ∙ lists .linksAre in
+      let readerEq : getD l (r .source .list + 2) 0 ≡ packed (p .body) (p .offset) = ap (λ (k : ℕ). getD l (k + 2) 0) listEq ∙ lists .readerIs in
+      let highEq : high links ≡ listPrice (x .list) - listOverhead = packed-high (listPrice (x .list) - listOverhead) (p .list) (omega (arith, w .0, w .1, h .cellsLent)) in
+      let fromEq : r .source .list + high links + 5 ≡ A + listPrice (x .list) = omega (arith, listEq, highEq) in
+      let goneEq : definitions l (r .source .list + high (getD l (r .source .list + 1) 0) + 5) (getD l (r .source .list) 0) ≡ count (x .collected) =
+      ap (λ (k : ℕ). definitions l (r .source .list + high k + 5) (getD l (r .source .list) 0)) linksEq
+      ∙ ap (λ (k : ℕ). definitions l (r .source .list + high links + 5) k) toEq
+      ∙ ap (λ (k : ℕ). definitions l k to) fromEq
+      ∙ goneIs in
+      let counts : count (items n b′ (h .frames)) ≡ count (x .since) + (count (x .collected) + count U) = countsIs in
+      rw (
+        goneEq,
+        toEq,
+        readerEq,
+        linksEq,
+        le-ltb to (r .source .list) (omega (arith, listEq, w .0, w .1)),
+        le-ltb (length l) to (omega (arith, h .shows .stands .size)),
+        le-ltb (r .source .list) (r .right) (omega (arith, listEq, w .1)),
+        le-ltb (r .counts .live) (count (x .collected)) (omega (arith, h .shows .stands .live)),
+        movedIs,
+      )
+
+-- The end of a body.
+pub endBodySim : {n : ℕ} {older : List Definition} {whole start : List ℕ} {r : Run} {l o : List ℕ} {s : State}
+    → definitionsPrice older ≡ 0 → (h : Represents n older whole start r (lent l o) s) (B : Body) (Bs : List Body) → s .bodies ≡ B ∷ Bs
+    → Simulates n older whole start (M.endBody r (lent l o)) (S.bodyEnd (limitsOf n (length start)) (S.ownCall s) B Bs s)
+endBodySim {n} {older} {whole} {start} {r} {l} {o} {s} free h B Bs e = go (S.ownCall s) refl
+  where
+    go : (t : Bool) → S.ownCall s ≡ t → Simulates n older whole start (M.endBody r (lent l o)) (S.bodyEnd (limitsOf n (length start)) t B Bs s)
+    go true q = rw (ownIs h ∙ q) (refusal free h Outcomes.bodyInCall)
+    go false q =
+        let b = length older in
+        let below : length (s .calls) ≤ callsBelow (s .bodies) = ltb-false (callsBelow (s .bodies)) (length (s .calls)) q in
+        let x = ownBodyOf n b (h .frames) B Bs (sym (h .bodiesAre) ∙ e)
+        (omega (arith, ap length (h .callsAre), ap callsBelow (h .bodiesAre))) in
+        let eqs : B ∷ Bs ≡ bodyIs h x ∷ bodies n b (x .under) = sym e ∙ bodiesIs h x in
+        let bodyEq : B ≡ bodyIs h x = cc in
+        let restEq : Bs ≡ bodies n b (x .under) = cc in
+        let done : Simulates n older whole start (M.endBody r (lent l o)) (S.bodyEnd (limitsOf n (length start)) false (bodyIs h x) (bodies n b (x .under)) s) =
+        rw (ownIs h ∙ q, endsTo h x) (goes refl (endsBody h x)) in
+        subst (λ (z : Body). Simulates n older whole start (M.endBody r (lent l o)) (S.bodyEnd (limitsOf n (length start)) false z Bs s)) (sym bodyEq)
+        (subst (λ (z : List Body). Simulates n older whole start (M.endBody r (lent l o)) (S.bodyEnd (limitsOf n (length start)) false (bodyIs h x) z s)) (sym restEq) done)

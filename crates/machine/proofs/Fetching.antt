@@ -1,0 +1,176 @@
+-- A byte of a body, and `~` with its digit.
+use Prim.Native.Nat.{ℕ, zero, suc, _+_, _-_, _%_, _≤_, _<_}
+use native.Mathlib.Omega.{arith}
+use mathlib.Core.Path.{_≡_, refl, sym, ap, _∙_}
+use mathlib.Core.Bool.{Bool, true, false, cond}
+use mathlib.Core.List.{List, [], _∷_, _++_}
+use mathlib.Core.Option.{Option, none, some}
+use lib.ListN.{length, take, drop, getD, length-drop}
+use lib.Seq.{getD-drop}
+use lib.Dec.{leb, ltb}
+use borrow.Author.Tests.{le-leb, lt-leb, ne-eqb, ltb-true, ltb-false}
+use Rattle.language.specs.Outcomes
+use Rattle.language.specs.Signs.{Bytes, parameterNumber}
+use Rattle.language.specs.Definitions.{Definition}
+use Rattle.language.specs.BuiltIns.{parameter}
+use Rattle.language.specs.Charge.{argumentsPrice, definitionsPrice}
+use Rattle.language.specs.Matched.{All, empty, with}
+use Rattle.language.specs.Scanning.{State, Body}
+use Rattle.language.specs.Scanning as S
+use Rattle.language.specs.Expansion.{limitsOf, lent}
+use Rattle.language.proofs.Octets.{at-octets}
+use Rattle.language.specs.Octets.{Octets}
+use Rattle.memory.specs.Block.{block, lowBytes}
+use Rattle.memory.proofs.Blocks.{block-at, take-lowBytes, drop-lowBytes, lowBytes-of-bytes}
+use Rattle.machine.specs.declared.run.Run.{Run}
+use Rattle.machine.specs.Walks.{nowhere, mark, argument}
+use Rattle.machine.specs.Machine as M
+use Rattle.machine.proofs.Moves.{Reader, readerOf}
+use Rattle.machine.proofs.Represents.{Simulates}
+use Rattle.machine.proofs.Finds.{HoldsItems, Named, at-cells, Listed, list-cells, argument-at, argument-past}
+use Rattle.machine.proofs.Putting.{refusal, copyBlock}
+use Rattle.machine.proofs.Counting.{advanced}
+use Rattle.machine.specs.Items.{encode, encodeArguments}
+use Rattle.machine.specs.Frames.{Places, Frame, made, collects, reads, items, places, bodies, Valid}
+use Rattle.machine.specs.Held.{Represents}
+
+-- a block of bytes is the same in the low bits of the cells
+pub block-low : (from : ℕ) (bs l : List ℕ) → block from (length bs) l ≡ bs → Octets bs → block from (length bs) (lowBytes l) ≡ bs
+block-low from bs l e h =
+    ap (take (length bs)) (drop-lowBytes from l) ∙ take-lowBytes (length bs) (drop from l) ∙ ap lowBytes e ∙ lowBytes-of-bytes bs (at-octets h)
+
+-- what is below 256 at each place is octets
+pub octetsOf : (l : List ℕ) → ((i : ℕ) → getD l i 0 < 256) → Octets l
+octetsOf [] h = empty
+octetsOf (x ∷ l) h = with (h 0) (octetsOf l (λ i. h (suc i)))
+
+-- an argument of octets is octets
+pub each : (k : ℕ) (list : List Bytes) → All Octets list → Octets (parameter k list)
+each k [] h = empty
+each zero (a ∷ list) (with x h) = x
+each (suc k) (a ∷ list) (with x h) = each k list h
+
+-- every list has a name
+pub validNamed : (n b : ℕ) (fs : List Frame) → Valid n b fs → Named (bodies n b fs)
+unfolding Valid bodies Named
+validNamed n b [] v = tt
+validNamed n b (made f name value spare ∷ fs) v = validNamed n b fs v
+validNamed n b (collects ended hand waits ∷ fs) v = validNamed n b fs v
+validNamed n b (reads list since d k x o ∷ fs) v = (v .4, validNamed n b fs (v .0))
+
+module _ {n : ℕ} {older : List Definition} {whole start : List ℕ} {r : Run} {l o : List ℕ} {s : State} (h : Represents n older whole start r (lent l o) s) where
+  pub holdsOf : HoldsItems n l (r .right) (items n (length older) (h .frames))
+  holdsOf = record { size = h .shows .stands .size; cellsLent = h .cellsLent; ends = h .shows .stands .right; cells = h .shows .stands .cells }
+
+  -- the byte that the code reads of the body is the next of its bytes
+  module _ (B : Body) (Bs : List Body) (e : s .bodies ≡ B ∷ Bs) where
+    readerIs : Reader n (length older) (h .frames) B
+    readerIs = readerOf n (length older) (h .frames) B Bs (h .valid) (sym (h .bodiesAre) ∙ e)
+
+    bodyEq : r .source .body ≡ places n (length older) (h .frames) .body
+    bodyEq = ap (λ (p : Places). p .body) (h .placesAre)
+
+    offsetEq : r .source .offset ≡ places n (length older) (h .frames) .offset
+    offsetEq = ap (λ (p : Places). p .offset) (h .placesAre)
+
+    pub bodyOver : B .rest ≡ [] → M.bodyByte r l ≡ nowhere
+    bodyOver q =
+        let x = readerIs in
+        let c = at-cells holdsOf (x .at) in
+        let z : length (drop (places n (length older) (h .frames) .offset) (x .value)) ≡ 0 = ap length (sym (x .rest) ∙ q) in
+        let valued : getD l (r .source .body + 3) 0 ≡ length (x .value) = ap (λ (k : ℕ). getD l (k + 3) 0) bodyEq ∙ c .2 .cells .valued in
+        rw (le-leb (getD l (r .source .body + 3) 0) (r .source .offset)
+        (omega (arith, offsetEq, valued, length-drop (places n (length older) (h .frames) .offset) (x .value))))
+
+    pub bodyNext : (x : ℕ) (rest : Bytes) → B .rest ≡ x ∷ rest → x < 256 → M.bodyByte r l ≡ x
+    bodyNext x rest q small =
+        let v = readerIs in
+        let c = at-cells holdsOf (v .at) in
+        let k = places n (length older) (h .frames) .offset in
+        let tail : drop k (v .value) ≡ x ∷ rest = sym (v .rest) ∙ q in
+        let z : length (drop k (v .value)) ≡ suc (length rest) = ap length tail in
+        let inside : k < length (v .value) = omega (arith, length-drop k (v .value)) in
+        let valued : getD l (r .source .body + 3) 0 ≡ length (v .value) = ap (λ (j : ℕ). getD l (j + 3) 0) bodyEq ∙ c .2 .cells .valued in
+        let named : getD l (r .source .body + 1) 0 ≡ length (c .0) = ap (λ (j : ℕ). getD l (j + 1) 0) bodyEq ∙ c .2 .cells .named in
+        let zero′ : k + 0 ≡ k = omega arith in
+        let byteIs : getD l (r .source .body + 4 + getD l (r .source .body + 1) 0 + r .source .offset) 0 ≡ x =
+        ap (λ (j : ℕ). getD l (r .source .body + 4 + j + r .source .offset) 0) named
+        ∙ ap (λ (j : ℕ). getD l (j + 4 + length (c .0) + r .source .offset) 0) bodyEq
+        ∙ ap (λ (j : ℕ). getD l (places n (length older) (h .frames) .body + 4 + length (c .0) + j) 0) offsetEq
+        ∙ sym (block-at (places n (length older) (h .frames) .body + 4 + length (c .0)) (length (v .value)) l k inside)
+        ∙ ap (λ (j : List ℕ). getD j k 0) (c .2 .cells .valueIs)
+        ∙ ap (λ (j : ℕ). getD (v .value) j 0) (sym zero′)
+        ∙ sym (getD-drop k (v .value) 0 0)
+        ∙ ap (λ (j : List ℕ). getD j 0 0) tail in
+        let whole′ : x % 256 ≡ x = omega arith in
+        rw (lt-leb (getD l (r .source .body + 3) 0) (r .source .offset) (omega (arith, offsetEq, valued)), byteIs) whole′
+
+-- The parameter that a byte stands for: the code's number is the scanning's.
+pub data Numbered : ℕ → Option ℕ → Type 0 where
+  no : Numbered nowhere none
+  number : {k : ℕ} → k < 10 → Numbered k (some k)
+
+pub numbered : (x : ℕ) → Numbered (M.parameterNumber x) (parameterNumber x)
+numbered x = low (ltb x 48) refl
+  where
+    high′ : (t : Bool) → ltb 57 x ≡ t → 48 ≤ x → Numbered (cond t nowhere (x - 48)) (cond (leb x 57) (some (x - 48)) none)
+    high′ true e q = rw (lt-leb x 57 (ltb-true 57 x e)) no
+    high′ false e q = let z = ltb-false 57 x e in let w : x - 48 < 10 = omega arith in rw (le-leb x 57 z) (number w)
+
+    low : (t : Bool) → ltb x 48 ≡ t → Numbered (cond t nowhere (cond (ltb 57 x) nowhere (x - 48))) (parameterNumber x)
+    low true e = rw (lt-leb 48 x (ltb-true x 48 e)) no
+    low false e = rw (le-leb 48 x (ltb-false x 48 e)) (high′ (ltb 57 x) refl (ltb-false x 48 e))
+
+module _ {n : ℕ} {older : List Definition} {whole start : List ℕ} {r : Run} {l o : List ℕ} {s : State}
+    (free : definitionsPrice older ≡ 0) (h : Represents n older whole start r (lent l o) s) (B : Body) (Bs : List Body) (e : s .bodies ≡ B ∷ Bs) where
+  listed : Listed n (length older) l (r .right) (places n (length older) (h .frames) .list) B Bs
+  listed = list-cells (h .frames) (h .valid) (validNamed n (length older) (h .frames) (h .valid)) (holdsOf h) (sym (h .bodiesAre) ∙ e)
+
+  listEq : r .source .list ≡ places n (length older) (h .frames) .list
+  listEq = ap (λ (p : Places). p .list) (h .placesAre)
+
+  -- parameter k of the body being read
+  fetchNumberSim : (x : ℕ) (rest : Bytes) → B .rest ≡ x ∷ rest → All Octets (B .list) → (k : ℕ) → k < 10
+      → Simulates n older whole start (M.fetchArgument r (argument l (r .source .list + 3) k) (lent l o))
+      (S.fetchSupplied (limitsOf n (length start)) (ltb k (length (B .list))) (parameter k (B .list)) (S.withBodies (S.withRest rest B ∷ Bs) s))
+  fetchNumberSim x rest q oct k small = go (ltb k (length (B .list))) refl
+    where
+      more : List ℕ
+      more = encode (listed .since ++ items n (length older) (listed .under))
+
+      c : drop (r .source .list + 3) l ≡ encodeArguments (B .list) ++ (mark ∷ more)
+      c = ap (λ (j : ℕ). drop (j + 3) l) listEq ∙ listed .cells .arguments
+
+      priced : argumentsPrice (B .list) ≤ 65536
+      priced = omega (arith, listed .within, h .cellsLent)
+
+      go : (t : Bool) → ltb k (length (B .list)) ≡ t
+          → Simulates n older whole start (M.fetchArgument r (argument l (r .source .list + 3) k) (lent l o))
+          (S.fetchSupplied (limitsOf n (length start)) t (parameter k (B .list)) (S.withBodies (S.withRest rest B ∷ Bs) s))
+      go true z =
+          let a = argument-at l (r .source .list + 3) (B .list) more k c priced (ltb-true k (length (B .list)) z) in
+          let p = argument l (r .source .list + 3) k in
+          let bs = parameter k (B .list) in
+          let there : p < nowhere = omega (arith, a .within, listed .within, h .cellsLent, listEq) in
+          let h′ = advanced h B Bs x rest e q in
+          rw (ne-eqb p nowhere (λ (y : p ≡ nowhere). absurd (omega arith)), a .counted)
+          (copyBlock free h′ (p + 1) bs (omega (arith, a .within, listed .within, listEq)) (a .bytes) (block-low (p + 1) bs l (a .bytes) (each k (B .list) oct)))
+      go false z =
+          let p : argument l (r .source .list + 3) k ≡ nowhere = argument-past l (r .source .list + 3) (B .list) more k c priced (ltb-false k (length (B .list)) z) in
+          rw p (refusal free h Outcomes.notSupplied)
+
+  -- `~` in a body
+  pub fetchBodySim : Octets (B .rest) → All Octets (B .list)
+      → Simulates n older whole start (M.fetchInBody r (lent l o)) (S.fetchInBody (limitsOf n (length start)) (B .rest) B Bs s)
+  fetchBodySim octets oct = go (B .rest) refl octets
+    where
+      byNumber : (x : ℕ) (rest : Bytes) → B .rest ≡ x ∷ rest → (k : ℕ) (j : Option ℕ) → Numbered k j
+          → Simulates n older whole start (M.fetchNumber r k (lent l o)) (S.fetchNumber (limitsOf n (length start)) j (B .list) (S.withBodies (S.withRest rest B ∷ Bs) s))
+      byNumber x rest q k j no = refusal free h Outcomes.parameterNotDigit
+      byNumber x rest q k j (number m) = rw (ne-eqb k nowhere (λ (y : k ≡ nowhere). absurd (omega arith))) (fetchNumberSim x rest q oct k m)
+
+      go : (bs : Bytes) → B .rest ≡ bs → Octets bs → Simulates n older whole start (M.fetchInBody r (lent l o)) (S.fetchInBody (limitsOf n (length start)) bs B Bs s)
+      go [] q oc = rw (bodyOver h B Bs e q) (refusal free h Outcomes.parameterNotDigit)
+      go (x ∷ rest) q (with small oc) =
+          rw (bodyNext h B Bs e x rest q small, ne-eqb x nowhere (λ (y : x ≡ nowhere). absurd (omega arith)))
+          (byNumber x rest q (M.parameterNumber x) (parameterNumber x) (numbered x))

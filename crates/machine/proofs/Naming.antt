@@ -1,0 +1,167 @@
+-- The names of the built-ins and the operands of the arithmetic, as they are read from cells.
+use Prim.Native.Nat.{ℕ, _+_, _%_, _≤_}
+use native.Mathlib.Omega.{arith}
+use native.Mathlib.Nat.{mod-eq-of-lt}
+use native.Mathlib.Numerals.{add-one}
+use mathlib.Core.Path.{_≡_, refl, ap, _∙_}
+use mathlib.Core.Bool.{Bool, true, false, cond, _&&_}
+use mathlib.Core.List.{List, [], _∷_}
+use mathlib.Core.Option.{Option, none, some}
+use lib.ListN.{length, getD}
+use lib.Seq.{drop-cons}
+use lib.Dec.{eqb}
+use lib.IntN.{ℤ}
+use borrow.Author.Tests.{le-ltb}
+use Rattle.memory.specs.Block.{block, same}
+use Rattle.memory.proofs.Blocks.{sameBytes-in}
+use Rattle.decimal.specs.declared.operations.Operation.{Operation}
+use Rattle.decimal.specs.declared.operations.Answer.{Answer}
+use Rattle.decimal.specs.declared.reader.Reader.{Reader}
+use Rattle.decimal.specs.Operand.{operand, inRange}
+use Rattle.decimal.specs.Shortest.{shortest}
+use Rattle.decimal.specs.Arithmetic.{Result, number, refused, divides, isZero, exact, ofOperands, calculated}
+use Rattle.decimal.specs.Answers.{operandOf, answerOf, after, afterAll, newReader}
+use Rattle.decimal.specs.Answers.{numberOf as readBack}
+use Rattle.decimal.proofs.Reading.{reading}
+use Rattle.decimal.proofs.Laws.{result-in-range, at-most-eleven}
+use Rattle.decimal.proofs.Texts.{filled-text, filled-length}
+use Rattle.language.specs.declared.built_ins.BuiltIn.{BuiltIn}
+use Rattle.language.specs.Signs.{Bytes}
+use Rattle.language.specs.Outcomes
+use Rattle.language.specs.Definitions.{Content, macro, builtIn, Definition, Found, found, missing, newest, counts, live}
+use Rattle.language.specs.Definitions as D
+use Rattle.language.specs.BuiltIns.{builtIns}
+use Rattle.language.specs.Matched.{empty, with}
+use Rattle.language.proofs.Lists.{either}
+use Rattle.language.specs.Octets.{Octets}
+use Rattle.machine.specs.Walks.{namedAs, namedAmong, builtInNamed, readBytes, operandAt, calculate}
+use Rattle.machine.specs.declared.operands.Named.{Named}
+use Rattle.machine.specs.declared.operands.Named.the-variants.{Unknown}
+
+-- What is shown ------------------------------------------------------------------------------------------------------
+
+-- the cell at p is the length of a text, and the cells behind it are the text
+pub record TextAt (l : List ℕ) (p : ℕ) (t : Bytes) : Type 0 where
+  pub counted : getD l p 0 ≡ length t
+  pub bytes : block (p + 1) (length t) l ≡ t
+  pub within : p + 1 + length t ≤ length l
+
+-- what the code has for what was found
+abbrev pub namedOf : Found → Named
+namedOf missing = Unknown
+namedOf (found k c) = namedAs c
+
+-- nothing was found, or a built-in
+pub data Own : Found → Type 0 where
+  unknown : Own missing
+  known : (k : ℕ) (b : BuiltIn) → Own (found k (builtIn b))
+
+-- an answer that holds a text
+pub record Holding (a : Answer) (t : Bytes) : Type 0 where
+  pub outcome : a .outcome ≡ Outcomes.finished
+  pub counted : a .decimal .len ≡ length t
+  pub short : length t ≤ 11
+  pub bytes : block 0 (length t) (a .decimal .bytes) ≡ t
+  pub size : length (a .decimal .bytes) ≡ 11
+
+-- an answer that refuses with an outcome
+pub record Refusing (a : Answer) (k : ℕ) : Type 0 where
+  pub outcome : a .outcome ≡ k
+  pub fails : eqb k Outcomes.finished ≡ false
+
+-- Names --------------------------------------------------------------------------------------------------------------
+
+-- the two tests of strings are one
+same-is : (a b : Bytes) → same a b ≡ D.same a b
+unfolding same D.same
+same-is [] [] = refl
+same-is [] (y ∷ b) = refl
+same-is (x ∷ a) [] = refl
+same-is (x ∷ a) (y ∷ b) = rw (same-is a b)
+
+-- the name of a choice is a choice of names
+namedOf-cond : (b : Bool) (x y : Found) → cond b (namedOf x) (namedOf y) ≡ namedOf (cond b x y)
+namedOf-cond true x y = refl
+namedOf-cond false x y = refl
+
+-- the first definition with a name is the newest
+first-is : {l : List ℕ} {p : ℕ} {t : Bytes} → TextAt l p t → (ds : List Definition) → namedAmong l p ds ≡ namedOf (newest t ds)
+unfolding namedAmong newest
+first-is h [] = refl
+first-is {l} {p} {t} h (d ∷ ds) =
+    rw (h .counted, sameBytes-in (p + 1) (length t) (d .name) l (h .within), h .bytes, same-is t (d .name), first-is h ds)
+    (namedOf-cond (D.same t (d .name)) (found (length ds) (d .content)) (newest t ds))
+
+-- a content that is not counted is a built-in
+content-own : (k : ℕ) (c : Content) → counts c ≡ 0 → Own (found k c)
+content-own k (macro v room) e = absurd (omega arith)
+content-own k (builtIn b) e = known k b
+
+-- among definitions that are not counted only a built-in is found
+own-of : (t : Bytes) (ds : List Definition) → live ds ≡ 0 → Own (newest t ds)
+unfolding newest live
+own-of t [] e = unknown
+own-of t (d ∷ ds) e = either Own (D.same t (d .name)) (content-own (length ds) (d .content) (omega arith)) (own-of t ds (omega arith))
+
+-- Operands -----------------------------------------------------------------------------------------------------------
+
+-- the bytes in the cells are read one by one
+read-is : (l : List ℕ) (p : ℕ) (r : Reader) {t : Bytes} → block p (length t) l ≡ t → p + length t ≤ length l → Octets t
+    → readBytes (length t) l p r ≡ afterAll r t
+unfolding readBytes afterAll
+read-is l p r e h empty = refl
+read-is l p r e h (with {x = b} {xs = t} small os) =
+    let c = rw (drop-cons l p 0 (omega arith)) at e in
+    let q : getD l p 0 % 256 ≡ b = ap (λ (x : ℕ). x % 256) (cc) ∙ mod-eq-of-lt small in
+    let s : block (p + 1) (length t) l ≡ t = rw add-one (cc) in
+    ap (λ (x : ℕ). readBytes (length t) l (p + 1) (after r x)) q ∙ read-is l (p + 1) (after r b) s (omega arith) os
+
+-- an operand comes back from the code's
+back : (o : Option ℤ) → readBack (operandOf o) ≡ o
+back none = refl
+back (some z) = refl
+
+-- Answers ------------------------------------------------------------------------------------------------------------
+
+-- a refusal does not finish
+abbrev Fails : Result → Type 0
+Fails (number z) = Unit {0}
+Fails (refused k) = eqb k Outcomes.finished ≡ false
+
+refusal-fails : (op : Operation) (a b : Option ℤ) → Fails (ofOperands op a b)
+refusal-fails op none b = refl
+refusal-fails op (some a) none = refl
+refusal-fails op (some a) (some b) = either Fails (divides op && isZero b) refl (either Fails (inRange (exact op a b)) tt refl)
+
+-- The results --------------------------------------------------------------------------------------------------------
+
+-- of the built-ins only a built-in is found
+pub builtIns-only : (t : Bytes) → Own (newest t builtIns)
+unfolding live
+builtIns-only t = own-of t builtIns refl
+
+-- the code finds the built-in that has the name in the cells
+pub builtInNamed-is : {l : List ℕ} {name : ℕ} {t : Bytes} → TextAt l name t → builtInNamed l name ≡ namedOf (newest t builtIns)
+builtInNamed-is h = first-is h builtIns
+
+-- the code reads the operand in the cells
+pub operandAt-is : {l : List ℕ} {p : ℕ} {t : Bytes} → TextAt l p t → Octets t → operandAt l p ≡ operandOf (operand t)
+operandAt-is {l} {p} {t} h os =
+    rw (h .counted, le-ltb (length l) (length t) (omega (arith, h .within)), read-is l (p + 1) newReader (h .bytes) (h .within) os, reading t)
+
+-- the code calculates what the operation gives for the two texts
+pub calculate-is : (op : Operation) {l : List ℕ} {first second : ℕ} {t₁ t₂ : Bytes}
+    → TextAt l first t₁ → Octets t₁ → TextAt l second t₂ → Octets t₂
+    → calculate op l first second ≡ answerOf (calculated op t₁ t₂)
+calculate-is op {t₁ = t₁} {t₂ = t₂} h₁ o₁ h₂ o₂ =
+    rw (operandAt-is h₁ o₁, operandAt-is h₂ o₂, back (operand t₁), back (operand t₂))
+
+-- a number is answered by its shortest decimal
+pub answer-number : (op : Operation) (t₁ t₂ : Bytes) {z : ℤ} → calculated op t₁ t₂ ≡ number z → Holding (answerOf (number z)) (shortest z)
+answer-number op t₁ t₂ {z} e =
+    let s = at-most-eleven z (result-in-range op t₁ t₂ z e) in
+    record { outcome = refl; counted = refl; short = s; bytes = filled-text 11 (shortest z) s; size = filled-length 11 (shortest z) }
+
+-- a refusal is answered by its outcome, which is not that of a run that finishes
+pub answer-refused : (op : Operation) (t₁ t₂ : Bytes) {k : ℕ} → calculated op t₁ t₂ ≡ refused k → Refusing (answerOf (refused k)) k
+answer-refused op t₁ t₂ {k} e = record { outcome = refl; fails = rw e at (refusal-fails op (operand t₁) (operand t₂)) }

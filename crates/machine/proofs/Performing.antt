@@ -1,0 +1,396 @@
+-- What an applied call does: a body read, or a built-in performed, as the scanning does it.
+use Prim.Native.Nat.{ℕ, _+_, _-_, _≤_, _<_}
+use native.Mathlib.Omega.{arith}
+use mathlib.Core.Path.{_≡_, refl, sym, ap, subst, _∙_}
+use mathlib.Core.Bool.{Bool, true, false, cond}
+use mathlib.Core.List.{List, [], _∷_, _++_, append-nil}
+use lib.ListN.{length, drop, getD, set, length-append}
+use lib.Seq.{drop-drop, drop-at}
+use lib.Dec.{eqb, ltb}
+use borrow.Author.Tests.{le-ltb, ne-eqb, ltb-true, ltb-false}
+use Rattle.decimal.specs.declared.operations.Operation.{Operation}
+use Rattle.decimal.specs.Arithmetic.{Result, number, refused, calculated}
+use Rattle.decimal.specs.Shortest.{shortest}
+use Rattle.decimal.specs.Answers.{answerOf}
+use Rattle.language.specs.Outcomes
+use Rattle.language.specs.Signs.{Bytes}
+use Rattle.language.specs.declared.built_ins.BuiltIn.{BuiltIn}
+use Rattle.language.specs.declared.built_ins.BuiltIn.the-variants.{Def, Val, Update, Arithmetic}
+use Rattle.language.specs.Definitions.{macro, builtIn, Definition, Found, found, missing, altered, oldest, among}
+use Rattle.language.specs.Definitions as D
+use Rattle.language.specs.BuiltIns.{builtIns, Deed, reads, alters, faulty, deed, deedOf, performed, valueOf, updateOf, resultOf, parameter, needs}
+use Rattle.language.specs.Charge.{argumentsPrice}
+use Rattle.language.specs.Matched.{All, empty, with}
+use Rattle.language.specs.Scanning.{State, next, Call, Body}
+use Rattle.language.specs.Scanning as S
+use Rattle.language.specs.Expansion.{limitsOf, lent}
+use Rattle.language.specs.Octets.{Octets, CallOctets, ContentOctets, HoldsOctets, DefinitionOctets}
+use Rattle.language.proofs.Demand.{builtIns-free}
+use Rattle.memory.specs.Block.{placed, moved, copied, lowBytes}
+use Rattle.memory.proofs.Blocks.{moved-in, copied-in, length-lowBytes}
+use Rattle.machine.specs.declared.run.Run.{Run}
+use Rattle.machine.specs.Walks.{nowhere, argument, newest, isRead, calculate}
+use Rattle.machine.specs.Machine as M
+use Rattle.machine.proofs.Items.{encode-append, width-append}
+use Rattle.machine.proofs.Moves.{madeAll, madeLaid, madeBodies, madeValid}
+use Rattle.machine.proofs.Represents.{Simulates, goes, outputSize}
+use Rattle.machine.proofs.Finds.{HoldsItems, Defines, DefinitionAt, definition-at, ArgumentAt, argument-at, argument-past, Newest, absent, present, newest-finds, isRead-finds}
+use Rattle.machine.proofs.Fetching.{validNamed, block-low, each}
+use Rattle.machine.proofs.Altering.{alter, alterItems, alter-append, alter-width, alter-count, alterLaid, alterLefts, alterCalls, alterBodies, alterValid, Spot, spotOf, stored, alterDefinitions, alterSize, alterHigh, alterLow}
+use Rattle.machine.proofs.Naming.{TextAt, namedOf, Own, unknown, known, builtIns-only, builtInNamed-is, calculate-is, answer-number, answer-refused}
+use Rattle.machine.proofs.Applying.{Applied, listOf}
+use Rattle.machine.proofs.Calling.{argumentsAt, linksIs, rightTo, toAbove, freed, releaseIs, oldest-items, begun, movedIs}
+use Rattle.machine.proofs.Giving.{refused as refusing, giveSim}
+use Rattle.machine.proofs.Defining.{defSim}
+use Rattle.machine.specs.Items.{Item, defined, width, encode, definitionsOf, count}
+use Rattle.machine.specs.Frames.{Places, Frame, address, At, items, places, calls, bodies, Valid}
+
+-- a value that is found is of bytes
+valueOctets : (t : Bytes) (ds : List Definition) (k room : ℕ) (v : Bytes) → All DefinitionOctets ds → D.newest t ds ≡ found k (macro v room) → Octets v
+unfolding D.newest
+valueOctets t [] k room v h e = let z : _≡_ {A = ℕ} 0 1 = cc in absurd (omega arith)
+valueOctets t (d ∷ ds) k room v (with x h) e = go (D.same t (d .name)) e (λ q. valueOctets t ds k room v h q)
+  where
+    go : (y : Bool) → cond y (found (length ds) (d .content)) (D.newest t ds) ≡ found k (macro v room) → (D.newest t ds ≡ found k (macro v room) → Octets v) → Octets v
+    go true e ih = let q : d .content ≡ macro v room = cc in subst ContentOctets q (x .content)
+    go false e ih = ih e
+
+-- a list with a name takes a cell at least
+oneCost : (x : List Bytes) → 0 < length x → 1 ≤ argumentsPrice x
+unfolding argumentsPrice
+oneCost [] h = absurd (omega arith)
+oneCost (y ∷ x) h = omega arith
+
+module _ {n : ℕ} {whole start : List ℕ} {r : Run} {l o : List ℕ} {s : State} (a : Applied n builtIns whole start r (lent l o) s) (oct : HoldsOctets s) where
+  abbrev b : ℕ
+  b = length builtIns
+
+  abbrev U : List Item
+  U = items n b (a .under)
+
+  abbrev its : List Item
+  its = a .since ++ U
+
+  abbrev list : List Bytes
+  list = listOf a
+
+  abbrev name : ℕ
+  name = r .calls .call + 3
+
+  abbrev c : Call
+  c = record { ended = a .ended; hand = a .hand; stood = b + count U }
+
+  abbrev cs : List Call
+  cs = calls n b (a .under)
+
+  abbrev gs : List Frame
+  gs = madeAll (a .since) (a .under)
+
+  gsLaid : (items n b gs ≡ its) × (places n b gs ≡ places n b (a .under))
+  gsLaid = madeLaid n b (a .since) (a .under) (a .definitions)
+
+  holds : HoldsItems n l (r .right) (items n b gs)
+  holds = rw (gsLaid .0) (record { size = a .shows .stands .size; cellsLent = a .cellsLent; ends = a .shows .stands .right; cells = a .shows .stands .cells })
+
+  gsValid : Valid n b gs
+  gsValid = madeValid n b (a .since) (a .under) (a .valid)
+
+  listGs : r .source .list ≡ places n b gs .list
+  listGs = a .listIs ∙ ap (λ (p : Places). p .list) (sym (gsLaid .1))
+
+  bodyGs : r .source .body ≡ places n b gs .body
+  bodyGs = a .bodyIs ∙ ap (λ (p : Places). p .body) (sym (gsLaid .1))
+
+  -- the arguments are of bytes
+  listOctets : All Octets list
+  listOctets = go (s .calls) (a .callsAre) (oct .calls)
+    where
+      last : (x : List Bytes) (y : Bytes) → All Octets x → Octets y → All Octets (x ++ (y ∷ []))
+      last [] y empty h = with h empty
+      last (z ∷ x) y (with g k) h = with g (last x y k h)
+
+      go : (ks : List Call) → ks ≡ c ∷ cs → All CallOctets ks → All Octets list
+      go [] e h = let z : _≡_ {A = ℕ} 0 1 = cc in absurd (omega arith)
+      go (k ∷ ks) e (with x h) =
+          let q : k ≡ c = cc in
+          let y = subst CallOctets q x in
+          last (a .ended) (a .hand) (y .ended) (y .hand)
+
+  priced : argumentsPrice list ≤ 65536
+  priced = omega (arith, a .leftIs, a .room, a .shows .stands .right, a .cellsLent)
+
+  -- argument k of the call, in the cells
+  argumentIs : (k : ℕ) → k < length list → ArgumentAt l name list k (argument l name k)
+  argumentIs k h = argument-at l name list (drop (r .calls .left + 1) l) k (argumentsAt a) priced h
+
+  argumentNot : (k : ℕ) → length list ≤ k → argument l name k ≡ nowhere
+  argumentNot k h = argument-past l name list (drop (r .calls .left + 1) l) k (argumentsAt a) priced h
+
+  textIs : (k : ℕ) → k < length list → TextAt l (argument l name k) (parameter k list)
+  textIs k h =
+      let x = argumentIs k h in
+      record { counted = x .counted; bytes = x .bytes; within = omega (arith, x .within, a .leftIs, a .room, a .shows .stands .right, a .shows .stands .size) }
+
+  there : (k : ℕ) → k < length list → eqb (argument l name k) nowhere ≡ false
+  there k h =
+      let x = argumentIs k h in
+      let z : argument l name k < nowhere = omega (arith, x .within, a .leftIs, a .room, a .shows .stands .right, a .cellsLent) in
+      ne-eqb (argument l name k) nowhere (λ (e : argument l name k ≡ nowhere). absurd (omega arith))
+
+  named : 0 < length list
+  named = omega (arith, length-append (a .ended) (a .hand ∷ []))
+
+  nameText : TextAt l name (parameter 0 list)
+  unfolding argumentsPrice
+  nameText =
+      let x = argumentIs 0 named in
+      let e : argument l name 0 ≡ name = x .place ∙ omega arith in
+      subst (λ (k : ℕ). TextAt l k (parameter 0 list)) e (textIs 0 named)
+
+  -- A name looked up -------------------------------------------------------------------------------------------------
+
+  found′ : (q : ℕ) (t : Bytes) → TextAt l q t → Newest n b l (r .right) its t (newest l (r .right) (r .source .list) q)
+  found′ q t x =
+      rw (gsLaid .0) at (newest-finds gs gsValid (validNamed n b gs gsValid) holds q t listGs (x .counted) (x .bytes) (omega (arith, x .within, a .shows .stands .size)))
+
+  definitionsAre : s .standing .definitions ≡ definitionsOf its ++ builtIns
+  definitionsAre = a .shows .stands .definitions
+
+  -- A body is read ---------------------------------------------------------------------------------------------------
+
+  readSim : (d k room : ℕ) (v : Bytes) → Defines n b l (r .right) its d k (parameter 0 list) v room
+      → Simulates n builtIns whole start (M.readBody r d (lent l o)) (S.perform (limitsOf n (length start)) (reads k v) c cs s)
+  readSim d k room v D =
+      let left : ltb (r .calls .left) (r .calls .call + 4) ≡ false = le-ltb (r .calls .left) (r .calls .call + 4) (omega (arith, a .leftIs, oneCost list named)) in
+      let fits : ltb (r .right) (r .calls .left - r .calls .call + 1) ≡ false = le-ltb (r .right) (r .calls .left - r .calls .call + 1) (omega (arith, a .leftIs, a .room)) in
+      rw (left, fits, linksIs a, movedIs a d k v (D .at)) (goes refl (begun a d k v (D .at) named))
+
+  -- VAL --------------------------------------------------------------------------------------------------------------
+
+  -- "15, 19": a name that no definition has
+  refuseSim : (q : ℕ) (t : Bytes) → TextAt l q t → (F : Found) → Own F → D.newest t builtIns ≡ F
+      → (f : Found → Deed) → f missing ≡ faulty Outcomes.notDefined → ((k : ℕ) (bi : BuiltIn) → f (found k (builtIn bi)) ≡ faulty Outcomes.builtIn)
+      → Simulates n builtIns whole start (M.refuseName r q (lent l o)) (S.perform (limitsOf n (length start)) (f F) c cs s)
+  refuseSim q t x F unknown e f m k = rw (builtInNamed-is x ∙ ap namedOf e, m) (refusing builtIns-free a Outcomes.notDefined)
+  refuseSim q t x F (known j bi) e f m k = rw (builtInNamed-is x ∙ ap namedOf e, k j bi) (refusing builtIns-free a Outcomes.builtIn)
+
+  valSim : (long : 1 < length list)
+      → Simulates n builtIns whole start (M.val r (argument l name 1) (lent l o))
+      (S.perform (limitsOf n (length start)) (valueOf (D.newest (parameter 1 list) (s .standing .definitions))) c cs s)
+  valSim long = go (newest l (r .right) (r .source .list) q) (found′ q t x)
+    where
+      q : ℕ
+      q = argument l name 1
+
+      t : Bytes
+      t = parameter 1 list
+
+      x : TextAt l q t
+      x = textIs 1 long
+
+      go : (d : ℕ) → Newest n b l (r .right) its t d → Simulates n builtIns whole start (M.valOf r q d (lent l o)) (S.perform (limitsOf n (length start)) (valueOf (D.newest t (s .standing .definitions))) c cs s)
+      go d (absent e f) =
+          let g : D.newest t (s .standing .definitions) ≡ D.newest t builtIns = ap (D.newest t) definitionsAre ∙ f builtIns in
+          rw (e, g) (refuseSim q t x (D.newest t builtIns) (builtIns-only t) refl valueOf refl (λ k bi. refl))
+      go d (present {k} {room} {v} at f) =
+          let g : D.newest t (s .standing .definitions) ≡ found k (macro v room) = ap (D.newest t) definitionsAre ∙ f builtIns refl in
+          let from = d + 4 + length t in
+          let vo : Octets v = valueOctets t (s .standing .definitions) k room v (oct .definitions) g in
+          let fit : from + length v ≤ n = omega (arith, at .within, at .cells .fits) in
+          rw (ne-eqb d nowhere (λ (e : d ≡ nowhere). absurd (omega (arith, at .below))), g, at .cells .named, at .cells .valued)
+          (giveSim builtIns-free a v (moved from (r .calls .call) (length v) l) (copied from (r .counts .written) (length v) (lowBytes l) o)
+          (λ e. moved-in from (r .calls .call) (length v) l (omega (arith, a .shows .stands .size)) (omega (arith, a .shows .stands .size, a .carried, a .leftIs, a .room, a .shows .stands .right)) ∙ ap (λ (y : List ℕ). placed (r .calls .call) y l) (at .cells .valueIs))
+          (λ e. copied-in from (r .counts .written) (length v) (lowBytes l) o (omega (arith, a .shows .stands .size, length-lowBytes l)) (omega (arith, outputSize (a .shows), a .shows .wrote .written)) ∙ ap (λ (y : List ℕ). placed (r .counts .written) y o) (block-low from v l (at .cells .valueIs) vo)))
+
+  -- UPDATE -----------------------------------------------------------------------------------------------------------
+
+  -- the cells of a definition, by where it stands among the items
+  spotCells : (d k : ℕ) (v : Bytes) (spot : Spot n b its d k v) → DefinitionAt l d (spot .name) v (length v + length (spot .spare))
+  spotCells d k v spot =
+      let I = defined (spot .free) (spot .name) v (spot .spare) in
+      let w = width-append (spot .newer) (I ∷ spot .older) in
+      let x : width its ≡ width (spot .newer ++ (I ∷ spot .older)) = ap width (spot .is) in
+      let e : d ≡ r .right + width (spot .newer) = omega (arith, spot .at, a .shows .stands .right) in
+      definition-at l d (spot .free) (spot .name) v (spot .spare) (spot .older) []
+      (ap (λ (j : ℕ). drop j l) e
+      ∙ sym (drop-drop (width (spot .newer)) (r .right) l)
+      ∙ ap (drop (width (spot .newer))) (a .shows .stands .cells ∙ ap encode (spot .is) ∙ encode-append (spot .newer) (I ∷ spot .older))
+      ∙ drop-at (encode (spot .newer)) (encode (I ∷ spot .older)) (width (spot .newer)) refl
+      ∙ sym (append-nil (encode (I ∷ spot .older))))
+
+  -- the value where the definition stands, and the list gone
+  storeSim : (d k room : ℕ) (t w v : Bytes) (y : ℕ) → Defines n b l (r .right) its d k t v room → TextAt l y w → length w ≤ room
+      → among k (S.reading (s .bodies)) ≡ false
+      → Simulates n builtIns whole start
+      (record {
+        run = (M.release r 0 (lent l o)) .run;
+        answer = (M.release r 0 (lent l o)) .answer;
+        lent = lent (set (moved (y + 1) (d + 4 + getD l (d + 1) 0) (getD l y 0) l) (d + 3) (getD l y 0)) o;
+      })
+      (next (S.withCalls cs (S.withDefinitions (oldest (b + count U) (altered k w (s .standing .definitions))) s)))
+  storeSim d k room t w v y at x fits quiet =
+      let spot = spotOf (at .at) in
+      let own = spotCells d k v spot in
+      let roomEq : room ≡ length v + length (spot .spare) = sym (at .cells .roomy) ∙ own .roomy in
+      let fit : length w ≤ length v + length (spot .spare) = omega arith in
+      let nameEq : length (spot .name) ≡ length t = sym (own .named) ∙ at .cells .named in
+      let target = d + 4 + length (spot .name) in
+      let l′ = stored d (spot .name) w l in
+      let cellsEq : set (moved (y + 1) (d + 4 + getD l (d + 1) 0) (getD l y 0) l) (d + 3) (getD l y 0) ≡ l′ =
+      ap (λ (j : ℕ). set (moved (y + 1) (d + 4 + getD l (d + 1) 0) j l) (d + 3) j) (x .counted)
+      ∙ ap (λ (j : ℕ). set (moved (y + 1) (d + 4 + j) (length w) l) (d + 3) (length w)) (at .cells .named ∙ sym nameEq)
+      ∙ ap (λ (j : List ℕ). set j (d + 3) (length w))
+      (moved-in (y + 1) target (length w) l (x .within) (omega (arith, at .within, a .shows .stands .size)) ∙ ap (λ (j : List ℕ). placed target j l) (x .bytes)) in
+      let fs′ = alter n b k w (a .under) in
+      let A = alterItems k w (b + count U) (a .since) in
+      let K = alterItems k w b U in
+      let splitEq : alterItems k w b its ≡ A ++ K = alter-append k w b (a .since) U in
+      let high′ : drop (r .right) l′ ≡ encode A ++ encode K =
+      alterHigh spot w fit (r .right) l (a .shows .stands .size) (a .shows .stands .right) (a .shows .stands .cells) ∙ ap encode splitEq ∙ encode-append A K in
+      let widthA : width A ≡ width (a .since) = alter-width k w (b + count U) (a .since) in
+      let toEq : r .right + width A ≡ address n U = omega (arith, rightTo a) in
+      let hi : drop (address n U) l′ ≡ encode K =
+      ap (λ (j : ℕ). drop j l′) (sym toEq)
+      ∙ sym (drop-drop (width A) (r .right) l′)
+      ∙ ap (drop (width A)) high′
+      ∙ drop-at (encode A) (encode K) (width A) refl in
+      let al = alterLaid n b k w (a .under) in
+      let quiet₂ : among k (S.reading (bodies n b (a .under))) ≡ false = ap (λ (j : List Body). among k (S.reading j)) (sym (a .bodiesAre)) ∙ quiet in
+      let ds : oldest (b + count U) (altered k w (s .standing .definitions)) ≡ definitionsOf K ++ builtIns =
+      ap (λ (j : List Definition). oldest (b + count U) (altered k w j)) definitionsAre
+      ∙ ap (oldest (b + count U)) (sym (alterDefinitions spot w fit builtIns refl) ∙ ap (λ (j : List Item). definitionsOf j ++ builtIns) splitEq)
+      ∙ ap (λ (j : ℕ). oldest (b + j) (definitionsOf (A ++ K) ++ builtIns)) (sym (alter-count k w b U))
+      ∙ oldest-items A K builtIns in
+      let e = toAbove a in
+      let rel = releaseIs a r 0 o refl refl refl (omega (arith, a .leftIs)) in
+      rw (cellsEq, rel)
+      (goes refl
+      (freed a fs′ l′ (oldest (b + count U) (altered k w (s .standing .definitions)))
+      (alterValid n b k w (a .under) quiet₂ (a .valid))
+      (al .1) (alterLefts n b k w (a .under)) (alterCalls n b k w (a .under)) (alterBodies n b k w (a .under))
+      (alterSize spot w fit (r .right) l (a .shows .stands .size) (a .shows .stands .right) (a .shows .stands .cells))
+      (alterLow spot w fit (r .right) l (a .shows .stands .size) (a .shows .stands .right) (a .shows .stands .cells) (r .calls .call) (omega (arith, a .leftIs, a .room)))
+      (ap width (al .0) ∙ alter-width k w b U)
+      (hi ∙ ap encode (sym (al .0)))
+      (ds ∙ ap (λ (j : List Item). definitionsOf j ++ builtIns) (sym (al .0)))
+      (ap count (al .0) ∙ alter-count k w b U)))
+
+  updateSim : (long : 2 < length list)
+      → Simulates n builtIns whole start (M.update r (argument l name 1) (argument l name 2) (lent l o))
+      (S.perform (limitsOf n (length start)) (updateOf (S.reading (s .bodies)) (parameter 2 list) (D.newest (parameter 1 list) (s .standing .definitions))) c cs s)
+  updateSim long = go (newest l (r .right) (r .source .list) q) (found′ q t x)
+    where
+      q : ℕ
+      q = argument l name 1
+
+      t : Bytes
+      t = parameter 1 list
+
+      w : Bytes
+      w = parameter 2 list
+
+      x : TextAt l q t
+      x = textIs 1 (omega arith)
+
+      y : TextAt l (argument l name 2) w
+      y = textIs 2 long
+
+      busy : List ℕ
+      busy = S.reading (s .bodies)
+
+      readEq : (d k : ℕ) (v : Bytes) → At n b its d k v → isRead l (r .source .list) (r .source .body) d ≡ among k busy
+      readEq d k v at =
+          isRead-finds gs gsValid (validNamed n b gs gsValid) holds listGs bodyGs (subst (λ (j : List Item). At n b j d k v) (sym (gsLaid .0)) at)
+          ∙ ap (λ (j : List Body). among k (S.reading j)) (madeBodies n b (a .since) (a .under) ∙ sym (a .bodiesAre))
+
+      go : (d : ℕ) → Newest n b l (r .right) its t d
+          → Simulates n builtIns whole start (M.updateOf r q (argument l name 2) d (lent l o)) (S.perform (limitsOf n (length start)) (updateOf busy w (D.newest t (s .standing .definitions))) c cs s)
+      go d (absent e f) =
+          let g : D.newest t (s .standing .definitions) ≡ D.newest t builtIns = ap (D.newest t) definitionsAre ∙ f builtIns in
+          rw (e, g) (refuseSim q t x (D.newest t builtIns) (builtIns-only t) refl (updateOf busy w) refl (λ k bi. refl))
+      go d (present {k} {room} {v} at f) =
+          let g : D.newest t (s .standing .definitions) ≡ found k (macro v room) = ap (D.newest t) definitionsAre ∙ f builtIns refl in
+          rw (ne-eqb d nowhere (λ (e : d ≡ nowhere). absurd (omega (arith, at .below))), g, readEq d k v (at .at)) (quiet (among k busy) refl)
+        where
+          fits : (z : Bool) → ltb room (length w) ≡ z → among k busy ≡ false
+              → Simulates n builtIns whole start (M.updateIn r (argument l name 2) d (lent l o))
+              (S.perform (limitsOf n (length start)) (cond z (faulty Outcomes.updateTooLong) (alters k w)) c cs s)
+          fits true e h =
+              let test : ltb (getD l (d + 2) 0) (getD l (argument l name 2) 0) ≡ true = ap (λ (j : ℕ). ltb j (getD l (argument l name 2) 0)) (at .cells .roomy) ∙ ap (ltb room) (y .counted) ∙ e in
+              rw test (refusing builtIns-free a Outcomes.updateTooLong)
+          fits false e h =
+              let test : ltb (getD l (d + 2) 0) (getD l (argument l name 2) 0) ≡ false = ap (λ (j : ℕ). ltb j (getD l (argument l name 2) 0)) (at .cells .roomy) ∙ ap (ltb room) (y .counted) ∙ e in
+              rw test (storeSim d k room t w v (argument l name 2) at y (ltb-false room (length w) e) h)
+
+          quiet : (z : Bool) → among k busy ≡ z
+              → Simulates n builtIns whole start (cond z (M.ends Outcomes.bodyBeingRead r (lent l o)) (M.updateIn r (argument l name 2) d (lent l o)))
+              (S.perform (limitsOf n (length start)) (cond z (faulty Outcomes.bodyBeingRead) (cond (ltb room (length w)) (faulty Outcomes.updateTooLong) (alters k w))) c cs s)
+          quiet true e = refusing builtIns-free a Outcomes.bodyBeingRead
+          quiet false e = fits (ltb room (length w)) refl e
+
+  -- Arithmetic -------------------------------------------------------------------------------------------------------
+
+  arithmeticSim : (op : Operation) (long : 2 < length list)
+      → Simulates n builtIns whole start
+      (M.giveAnswer r (calculate op l (argument l name 1) (argument l name 2)) (lent l o))
+      (S.perform (limitsOf n (length start)) (resultOf (calculated op (parameter 1 list) (parameter 2 list))) c cs s)
+  arithmeticSim op long =
+      rw (calculate-is op (textIs 1 (omega arith)) (each 1 list listOctets) (textIs 2 long) (each 2 list listOctets))
+      (go (calculated op (parameter 1 list) (parameter 2 list)) refl)
+    where
+      go : (R : Result) → calculated op (parameter 1 list) (parameter 2 list) ≡ R
+          → Simulates n builtIns whole start (M.giveAnswer r (answerOf R) (lent l o)) (S.perform (limitsOf n (length start)) (resultOf R) c cs s)
+      go (refused k) e = let x = answer-refused op (parameter 1 list) (parameter 2 list) e in rw (x .fails) (refusing builtIns-free a k)
+      go (number z) e =
+          let x = answer-number op (parameter 1 list) (parameter 2 list) e in
+          let bs = shortest z in
+          let bytes = (answerOf (number z)) .decimal .bytes in
+          giveSim builtIns-free a bs (copied 0 (r .calls .call) (length bs) bytes l) (copied 0 (r .counts .written) (length bs) bytes o)
+          (λ q. copied-in 0 (r .calls .call) (length bs) bytes l (omega (arith, x .short, x .size)) (omega (arith, a .shows .stands .size, a .carried, a .leftIs, a .room, a .shows .stands .right)) ∙ ap (λ (y : List ℕ). placed (r .calls .call) y l) (x .bytes))
+          (λ q. copied-in 0 (r .counts .written) (length bs) bytes o (omega (arith, x .short, x .size)) (omega (arith, outputSize (a .shows), a .shows .wrote .written)) ∙ ap (λ (y : List ℕ). placed (r .counts .written) y o) (x .bytes))
+
+  -- A built-in -------------------------------------------------------------------------------------------------------
+
+  performSim : (bi : BuiltIn) → needs bi < length list
+      → Simulates n builtIns whole start (M.perform r bi name (lent l o))
+      (S.perform (limitsOf n (length start)) (performed (S.reading (s .bodies)) list (s .standing .definitions) bi) c cs s)
+  performSim Def long = defSim a long
+  performSim Val long = valSim long
+  performSim Update long = updateSim long
+  performSim (Arithmetic op) long = arithmeticSim op long
+
+  -- what it needs, or 13
+  suppliedSim : (bi : BuiltIn)
+      → Simulates n builtIns whole start (M.supplied r bi name (lent l o))
+      (S.perform (limitsOf n (length start)) (cond (ltb (needs bi) (length list)) (performed (S.reading (s .bodies)) list (s .standing .definitions) bi) (faulty Outcomes.notSupplied)) c cs s)
+  suppliedSim bi = go (ltb (needs bi) (length list)) refl
+    where
+      go : (z : Bool) → ltb (needs bi) (length list) ≡ z
+          → Simulates n builtIns whole start (M.supplied r bi name (lent l o))
+          (S.perform (limitsOf n (length start)) (cond z (performed (S.reading (s .bodies)) list (s .standing .definitions) bi) (faulty Outcomes.notSupplied)) c cs s)
+      go true q = let long = ltb-true (needs bi) (length list) q in rw (there (needs bi) long) (performSim bi long)
+      go false q = rw (argumentNot (needs bi) (ltb-false (needs bi) (length list) q)) (refusing builtIns-free a Outcomes.notSupplied)
+
+  -- The applied call -------------------------------------------------------------------------------------------------
+
+  ownSim : (F : Found) → Own F → D.newest (parameter 0 list) builtIns ≡ F
+      → Simulates n builtIns whole start (M.applyBuiltIn r name (lent l o)) (S.perform (limitsOf n (length start)) (deedOf (S.reading (s .bodies)) list (s .standing .definitions) F) c cs s)
+  ownSim F unknown e = rw (builtInNamed-is nameText ∙ ap namedOf e) (refusing builtIns-free a Outcomes.notDefined)
+  ownSim F (known j bi) e = rw (builtInNamed-is nameText ∙ ap namedOf e) (suppliedSim bi)
+
+  pub markedSim : Simulates n builtIns whole start (M.applyMarked r (lent l o)) (S.perform (limitsOf n (length start)) (deed (S.reading (s .bodies)) list (s .standing .definitions)) c cs s)
+  unfolding deed
+  markedSim = go (newest l (r .right) (r .source .list) name) (found′ name (parameter 0 list) nameText)
+    where
+      t : Bytes
+      t = parameter 0 list
+
+      go : (d : ℕ) → Newest n b l (r .right) its t d
+          → Simulates n builtIns whole start (M.applyFound r d (lent l o))
+          (S.perform (limitsOf n (length start)) (deedOf (S.reading (s .bodies)) list (s .standing .definitions) (D.newest t (s .standing .definitions))) c cs s)
+      go d (absent e f) =
+          let g : D.newest t (s .standing .definitions) ≡ D.newest t builtIns = ap (D.newest t) definitionsAre ∙ f builtIns in
+          rw (e, g) (ownSim (D.newest t builtIns) (builtIns-only t) refl)
+      go d (present {k} {room} {v} at f) =
+          let g : D.newest t (s .standing .definitions) ≡ found k (macro v room) = ap (D.newest t) definitionsAre ∙ f builtIns refl in
+          rw (ne-eqb d nowhere (λ (e : d ≡ nowhere). absurd (omega (arith, at .below))), g) (readSim d k room v at)

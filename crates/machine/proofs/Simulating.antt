@@ -1,0 +1,196 @@
+-- One scan in the cells is one scan of the language.
+use Prim.Native.Nat.{ℕ, zero, suc, _+_, _-_, _<_, zero-le}
+use native.Mathlib.Omega.{arith}
+use mathlib.Core.Path.{_≡_, refl, sym, ap, subst, _∙_}
+use mathlib.Core.Bool.{Bool, true, false, cond}
+use mathlib.Core.List.{List, [], _∷_}
+use lib.ListN.{length, drop, getD, set, length-drop}
+use lib.Seq.{getD-drop}
+use lib.Dec.{eqb, ltb}
+use borrow.Author.Tests.{lt-ltb, le-ltb, le-leb, lt-leb, ne-eqb, eqb-true}
+use Rattle.language.specs.Outcomes
+use Rattle.language.specs.Signs.{Bytes, Table, plain, dollar, comma, semicolon, tilde, quote, unquote, signOfKind, meaning, outside, inside, closesTo}
+use Rattle.language.specs.BuiltIns.{builtIns, deed}
+use Rattle.language.specs.Matched.{All, with}
+use Rattle.language.specs.Scanning.{State, Step, Call, Body}
+use Rattle.language.specs.Scanning as S
+use Rattle.language.specs.Expansion.{limitsOf, lent}
+use Rattle.language.specs.Octets.{Octets, BodyOctets, HoldsOctets}
+use Rattle.language.proofs.Demand.{builtIns-free}
+use Rattle.machine.specs.declared.run.Run.{Run}
+use Rattle.machine.specs.Walks.{nowhere, mark}
+use Rattle.machine.specs.Machine as M
+use Rattle.machine.specs.Machine.{After}
+use Rattle.machine.proofs.Represents.{Simulates, goes}
+use Rattle.machine.proofs.Putting.{refusal, chargingOne, putByte}
+use Rattle.machine.proofs.Opening.{openSim, separateSim, fetchTextSim, unquoteSim, endTextSim, byBodies}
+use Rattle.machine.proofs.Counting.{quoted, counted, taken, advanced}
+use Rattle.machine.proofs.Ending.{ownIs, endBodySim}
+use Rattle.machine.proofs.Fetching.{bodyOver, bodyNext, fetchBodySim}
+use Rattle.machine.proofs.Applying.{listOf, appliedOf}
+use Rattle.machine.proofs.Performing.{markedSim}
+use Rattle.machine.specs.Items.{count}
+use Rattle.machine.specs.Frames.{items, calls}
+use Rattle.machine.specs.Held.{Represents}
+
+-- a state with other counts holds the same strings
+noted : {s : State} (m : ℕ) → HoldsOctets s → HoldsOctets (S.noting m s)
+noted m h = record { text = h .text; calls = h .calls; bodies = h .bodies; definitions = h .definitions; output = h .output }
+
+scannedOctets : {s : State} → HoldsOctets s → HoldsOctets (S.counting 0 s)
+scannedOctets h = record { text = h .text; calls = h .calls; bodies = h .bodies; definitions = h .definitions; output = h .output }
+
+firstOctet : {x : ℕ} {t : Bytes} → Octets (x ∷ t) → x < 256
+firstOctet (with x h) = x
+
+restOctets : {x : ℕ} {t : Bytes} → Octets (x ∷ t) → Octets t
+restOctets (with x h) = h
+
+innermostOctets : {B : Body} {Bs : List Body} → All BodyOctets (B ∷ Bs) → BodyOctets B
+innermostOctets (with x h) = x
+
+module _ {n : ℕ} {whole start : List ℕ} {r : Run} {l o : List ℕ} {s : State}
+    (h : Represents n builtIns whole start r (lent l o) s) (oct : HoldsOctets s) where
+  abbrev L : S.Limits
+  L = limitsOf n (length start)
+
+  abbrev Sim : After → Step → Type 0
+  Sim a t = Simulates n builtIns whole start a t
+
+  -- `;`
+  applySim : (x : ℕ) → Sim (M.apply r x (lent l o)) (S.apply L (S.ownCall s) x s)
+  applySim x = go (S.ownCall s) refl
+    where
+      innermost : S.ownCall s ≡ true → (ks : List Call) → s .calls ≡ ks → Sim (M.applyCall r (lent l o)) (S.applyInnermost L ks s)
+      innermost own [] e =
+          let q : S.ownCall s ≡ false = ap (λ (ks : List Call). ltb (S.callsBelow (s .bodies)) (length ks)) e ∙ le-ltb (S.callsBelow (s .bodies)) 0 zero-le in
+          let z : _≡_ {A = Bool} true false = sym own ∙ q in
+          absurd (let y : _≡_ {A = ℕ} 0 1 = cc in omega arith)
+      innermost own (k ∷ ks) e = chargingOne builtIns-free h λ q.
+          let a = appliedOf builtIns-free h own q in
+          let p : k ∷ ks ≡ record { ended = a .ended; hand = a .hand; stood = length builtIns + count (items n (length builtIns) (a .under)) } ∷ calls n (length builtIns) (a .under) = sym e ∙ a .callsAre in
+          let kEq : record { ended = a .ended; hand = a .hand; stood = length builtIns + count (items n (length builtIns) (a .under)) } ≡ k = cc in
+          let ksEq : calls n (length builtIns) (a .under) ≡ ks = cc in
+          subst (λ (j : List Call). Sim (M.applyMarked (M.charged 1 r) (lent (set (M.endArgument r l) (r .calls .left) mark) o)) (S.perform L (deed (S.reading (s .bodies)) (S.listOf k) (s .standing .definitions)) k j (S.noting (S.charge s + 1) s))) ksEq
+          (subst (λ (j : Call). Sim (M.applyMarked (M.charged 1 r) (lent (set (M.endArgument r l) (r .calls .left) mark) o)) (S.perform L (deed (S.reading (s .bodies)) (S.listOf j) (s .standing .definitions)) j (calls n (length builtIns) (a .under)) (S.noting (S.charge s + 1) s))) kEq
+          (markedSim a (noted (S.charge s + 1) oct)))
+
+      go : (t : Bool) → S.ownCall s ≡ t → Sim (M.apply r x (lent l o)) (S.apply L t x s)
+      go true e = rw (ownIs h ∙ e) (innermost e (s .calls) refl)
+      go false e = rw (ownIs h ∙ e)
+          (byBodies builtIns-free h (M.put r x (lent l o)) (M.ends Outcomes.appliesNothing r (lent l o)) (λ Bs. S.applyNone L Bs x s) (λ q. putByte builtIns-free h x) (λ B Bs q. refusal builtIns-free h Outcomes.appliesNothing))
+
+  -- `~`
+  fetchSim : (x : ℕ) → Sim (M.fetch r x (lent l o)) (S.fetch L (s .bodies) x s)
+  fetchSim x =
+      byBodies builtIns-free h (M.fetchInText r x (lent l o)) (M.fetchInBody r (lent l o)) (λ Bs. S.fetch L Bs x s) (λ e. fetchTextSim builtIns-free h x)
+      (λ B Bs e. let k = innermostOctets (subst (All BodyOctets) e (oct .bodies)) in fetchBodySim builtIns-free h B Bs e (k .rest) (k .list))
+
+  -- a byte outside of quotes
+  signSim : s .quotes ≡ 0 → (k x : ℕ) → Sim (M.scanSign r k x (lent l o)) (S.byte L (outside (signOfKind k)) x s)
+  signSim z k x = go (eqb k 1) (eqb k 2) (eqb k 3) (eqb k 4) (eqb k 5) (eqb k 6)
+    where
+      same : M.withQuotes 0 r ≡ r
+      same = ap (λ (q : ℕ). M.withQuotes q r) (sym (h .quotes ∙ z))
+
+      go : (a b c d e f : Bool)
+          → Sim (cond a (M.openCall r (lent l o)) (cond b (M.separate r x (lent l o)) (cond c (M.apply r x (lent l o)) (cond d (M.fetch r x (lent l o)) (cond e (M.goes (M.withQuotes 1 r) (lent l o)) (cond f (M.unquote r x (lent l o)) (M.put r x (lent l o))))))))
+          (S.byte L (outside (cond a dollar (cond b comma (cond c semicolon (cond d tilde (cond e quote (cond f unquote plain))))))) x s)
+      go true b c d e f = openSim builtIns-free h
+      go false true c d e f = separateSim builtIns-free h x
+      go false false true d e f = applySim x
+      go false false false true e f = fetchSim x
+      go false false false false true f = goes refl (quoted h 1)
+      go false false false false false true = unquoteSim builtIns-free h x
+      go false false false false false false =
+          subst (λ (u : Run). Sim (M.put u x (lent l o)) (S.put L (x ∷ []) (S.withQuotes 0 s))) same (putByte builtIns-free (quoted h 0) x)
+
+  -- a byte inside of quotes
+  quotedSim : (q : ℕ) → s .quotes ≡ suc q → (k x : ℕ) → Sim (M.scanQuoted r k x (lent l o)) (S.byte L (inside q (signOfKind k)) x s)
+  quotedSim q z k x = rw (h .quotes ∙ z) (opening (eqb k 5) refl)
+    where
+      Goal : ℕ → Type 0
+      Goal j = Sim (cond (eqb (M.quotesAfter (suc q) j) 0) (M.goes (M.withQuotes 0 r) (lent l o)) (M.put (M.withQuotes (M.quotesAfter (suc q) j) r) x (lent l o))) (S.byte L (inside q (signOfKind j)) x s)
+
+      copies : (m : ℕ) → Sim (cond (eqb (suc m) 0) (M.goes (M.withQuotes 0 r) (lent l o)) (M.put (M.withQuotes (suc m) r) x (lent l o))) (S.put L (x ∷ []) (S.withQuotes (suc m) s))
+      copies m = rw (ne-eqb (suc m) 0 (λ e. absurd (omega arith))) (putByte builtIns-free (quoted h (suc m)) x)
+
+      closes : (m : ℕ) → Sim (cond (eqb m 0) (M.goes (M.withQuotes 0 r) (lent l o)) (M.put (M.withQuotes m r) x (lent l o))) (S.byte L (closesTo m) x s)
+      closes zero = goes refl (quoted h 0)
+      closes (suc m) = copies m
+
+      other : (a b c d : Bool) → Sim (cond (eqb (suc q) 0) (M.goes (M.withQuotes 0 r) (lent l o)) (M.put (M.withQuotes (suc q) r) x (lent l o)))
+          (S.byte L (inside q (cond a dollar (cond b comma (cond c semicolon (cond d tilde plain))))) x s)
+      other true b c d = copies q
+      other false true c d = copies q
+      other false false true d = copies q
+      other false false false true = copies q
+      other false false false false = copies q
+
+      closing : (f : Bool) → eqb k 5 ≡ false → eqb k 6 ≡ f → Goal k
+      closing true p e = subst Goal (sym (eqb-true k 6 e)) (let z : suc q - 1 ≡ q = omega arith in rw z (closes q))
+      closing false p e = rw (p, e) (other (eqb k 1) (eqb k 2) (eqb k 3) (eqb k 4))
+
+      opening : (f : Bool) → eqb k 5 ≡ f → Goal k
+      opening true e = subst Goal (sym (eqb-true k 5 e)) (let z : suc q + 1 ≡ suc (suc q) = omega arith in rw z (copies (suc q)))
+      opening false e = closing (eqb k 6) e refl
+
+  -- a byte that was taken from its source
+  byteSim : (T : Table) (x : ℕ) → Sim (M.scanByte r (getD T x 0) x (lent l o)) (S.byte L (meaning T (s .quotes) x) x s)
+  unfolding meaning
+  byteSim T x = go (s .quotes) refl
+    where
+      go : (q : ℕ) → s .quotes ≡ q → Sim (M.scanByte r (getD T x 0) x (lent l o)) (S.byte L (meaning T q x) x s)
+      go zero z = rw (le-ltb 0 (r .quotes) (omega (arith, h .quotes))) (signSim z (getD T x 0) x)
+      go (suc q) z = rw (lt-ltb 0 (r .quotes) (omega (arith, h .quotes))) (quotedSim q z (getD T x 0) x)
+
+module _ {n : ℕ} {whole start : List ℕ} {r : Run} {l o : List ℕ} {s : State} (T : Table)
+    (h : Represents n builtIns whole start r (lent l o) s) (oct : HoldsOctets s) where
+  abbrev Goal : After → Step → Type 0
+  Goal a t = Simulates n builtIns whole start a t
+
+  -- the next byte is one of the text
+  textSim : (t : Bytes) → s .text ≡ t → Goal (M.scanText (M.scanned r) T whole (lent l o)) (S.from (limitsOf n (length start)) T [] t s)
+  textSim [] e =
+      let q : length (drop (r .counts .read) whole) ≡ 0 = ap length (h .ahead ∙ e) in
+      rw (le-leb (length whole) (r .counts .read) (omega (arith, length-drop (r .counts .read) whole))) (endTextSim builtIns-free (counted h))
+  textSim (x ∷ t) e =
+      let q : length (drop (r .counts .read) whole) ≡ suc (length t) = ap length (h .ahead ∙ e) in
+      let byte : getD whole (r .counts .read) 0 ≡ x = ap (λ (k : ℕ). getD whole k 0) (omega arith) ∙ sym (getD-drop (r .counts .read) whole 0 0) ∙ ap (λ (y : List ℕ). getD y 0 0) (h .ahead ∙ e) in
+      rw (lt-leb (length whole) (r .counts .read) (omega (arith, length-drop (r .counts .read) whole)), byte)
+      (byteSim (taken h x t e) (textOctets x t e) T x)
+    where
+      textOctets : (x : ℕ) (t : Bytes) → s .text ≡ x ∷ t → HoldsOctets (S.withText t (S.counting 1 s))
+      textOctets x t e = record {
+        text = restOctets (subst Octets e (oct .text));
+        calls = oct .calls;
+        bodies = oct .bodies;
+        definitions = oct .definitions;
+        output = oct .output;
+      }
+
+  -- the next byte is one of the innermost body
+  bodySim : (B : Body) (Bs : List Body) → s .bodies ≡ B ∷ Bs → (t : Bytes) → B .rest ≡ t
+      → Goal (M.scanBody (M.scanned r) T (lent l o)) (S.fromBody (limitsOf n (length start)) T t B Bs s)
+  bodySim B Bs e [] q = rw (bodyOver (counted h) B Bs e q) (endBodySim builtIns-free (counted h) B Bs e)
+  bodySim B Bs e (x ∷ t) q =
+      let all = subst (All BodyOctets) e (oct .bodies) in
+      let small : x < 256 = firstOctet (subst Octets q (innermostOctets all .rest)) in
+      rw (bodyNext (counted h) B Bs e x t q small, ne-eqb x nowhere (λ z. absurd (omega arith)))
+      (byteSim (advanced (counted h) B Bs x t e q) (bodyOctets all) T x)
+    where
+      bodyOctets : All BodyOctets (B ∷ Bs) → HoldsOctets (S.withBodies (S.withRest t B ∷ Bs) (S.counting 0 s))
+      bodyOctets (with y ys) = record {
+        text = oct .text;
+        calls = oct .calls;
+        bodies = with (record { list = y .list; rest = restOctets (subst Octets q (y .rest)) }) ys;
+        definitions = oct .definitions;
+        output = oct .output;
+      }
+
+  -- one scan
+  pub stepSim : Goal (M.step r T whole (lent l o)) (S.scan (limitsOf n (length start)) T s)
+  unfolding M.step S.scan
+  stepSim =
+      byBodies builtIns-free h (M.scanText (M.scanned r) T whole (lent l o)) (M.scanBody (M.scanned r) T (lent l o)) (λ Bs. S.from (limitsOf n (length start)) T Bs (s .text) s)
+      (λ e. textSim (s .text) refl) (λ B Bs e. bodySim B Bs e (B .rest) refl)

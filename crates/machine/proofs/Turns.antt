@@ -1,0 +1,72 @@
+-- One turn of each walk: what it answers with no turn left, and what it answers with one at least. And a test that a call answered.
+use Prim.Native.Nat.{ℕ, zero, suc, _+_, _-_, _%_, _<_}
+use mathlib.Core.Bool.{Bool, true, false, cond}
+use mathlib.Core.List.{List}
+use mathlib.Core.Path.{_≡_, refl, sym, _∙_}
+use native.Mathlib.Omega.{arith}
+use lib.ListN.{length, getD}
+use lib.Dec.{eqb, leb}
+use Rattle.decimal.specs.declared.reader.Reader.{Reader}
+use Rattle.decimal.specs.Answers.{after}
+use Rattle.machine.specs.Walks.{nowhere, mark, argument, size, isNamed, nextPosition, nextList, newestFrom, definitionsFrom, high, low, isReadFrom, readBytes}
+
+-- the value of a test that a call answered
+pub told : {r b v : Bool} → r ≡ b → r ≡ v → b ≡ v
+told e h = sym e ∙ h
+
+less : (t : ℕ) → suc t - 1 ≡ t
+less t = omega arith
+
+module _ (l : List ℕ) where
+  pub argument-done : (p : ℕ) → argument l p 0 ≡ cond (leb mark (getD l p 0)) nowhere p
+  unfolding argument
+  argument-done p = refl
+
+  pub argument-turn : (p k : ℕ) → 0 < k → argument l p k ≡ cond (leb mark (getD l p 0)) nowhere (argument l (p + (getD l p 0 + 1)) (k - 1))
+  unfolding argument
+  argument-turn p zero h = omega arith
+  argument-turn p (suc k) h = rw (less k)
+
+  pub newest-done : (p list name count : ℕ) → newestFrom 0 l p list name count ≡ nowhere
+  unfolding newestFrom
+  newest-done p list name count = refl
+
+  pub newest-turn :
+      (t p list name count : ℕ) → 0 < t
+      → newestFrom t l p list name count
+      ≡ cond (leb (length l) p) nowhere
+      (cond (isNamed l p list name count) p (newestFrom (t - 1) l (nextPosition l p list) (nextList l p list) name count))
+  unfolding newestFrom
+  newest-turn zero p list name count h = omega arith
+  newest-turn (suc t) p list name count h = rw (less t)
+
+  pub definitions-done : (p to : ℕ) → definitionsFrom 0 l p to ≡ 0
+  unfolding definitionsFrom
+  definitions-done p to = refl
+
+  pub definitions-turn : (t p to : ℕ) → 0 < t → definitionsFrom t l p to ≡ cond (leb to p) 0 (suc (definitionsFrom (t - 1) l (p + size l p) to))
+  unfolding definitionsFrom
+  definitions-turn zero p to h = omega arith
+  definitions-turn (suc t) p to h = rw (less t)
+
+  pub isRead-done : (list body definition : ℕ) → isReadFrom 0 l list body definition ≡ false
+  unfolding isReadFrom
+  isRead-done list body definition = refl
+
+  pub isRead-turn :
+      (t list body definition : ℕ) → 0 < t
+      → isReadFrom t l list body definition
+      ≡ cond (eqb list nowhere) false
+      (cond (eqb body definition) true (isReadFrom (t - 1) l (low (getD l (list + 1) 0)) (high (getD l (list + 2) 0)) definition))
+  unfolding isReadFrom
+  isRead-turn zero list body definition h = absurd (omega arith)
+  isRead-turn (suc t) list body definition h = rw (less t)
+
+  pub readBytes-done : (p : ℕ) (r : Reader) → readBytes 0 l p r ≡ r
+  unfolding readBytes
+  readBytes-done p r = refl
+
+  pub readBytes-turn : (k p : ℕ) (r : Reader) → 0 < k → readBytes k l p r ≡ readBytes (k - 1) l (p + 1) (after r (getD l p 0 % 256))
+  unfolding readBytes
+  readBytes-turn zero p r h = absurd (omega arith)
+  readBytes-turn (suc k) p r h = rw (less k)

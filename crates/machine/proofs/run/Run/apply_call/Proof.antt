@@ -1,0 +1,52 @@
+-- The cell of the `;` is refused, or charged and the mark set in it.
+use native.Mathlib.Omega.{arith}
+use borrow.Author.Tests.{le-leb, lt-leb}
+use borrow.Author.Needs.{needs}
+use Rattle.machine.proofs.run.Run.apply_call.Statement.{statement}
+use Rattle.machine.proofs.run.Run.apply_call.Tie as tie
+
+ends-with-requires : tie.Need-ends-with-requires
+ends-with-requires c κs = search needs
+
+returns : tie.Need-returns
+returns c = rw (le-leb _ _ (c .before .if1 .taken), c .ends-with .ensures)
+
+end-argument-requires : tie.Need-end-argument-requires
+end-argument-requires c κs = search needs
+
+write-requires : tie.Need-write-requires
+write-requires c κs = search needs
+
+charged-requires : tie.Need-charged-requires
+charged-requires c κs = search needs
+
+apply-marked-requires : tie.Need-apply-marked-requires
+apply-marked-requires c κs = rw (c .before .before .charged .ensures) (omega arith)
+
+same-length : tie.Need-same-length
+same-length c = search needs
+
+same-length-2 : tie.Need-same-length-2
+same-length-2 c = search needs
+
+returns-2 : tie.Need-returns-2
+returns-2 c =
+    let b = c .before .before .before .before in
+    let b₂ = b .before .before .before .before in
+    let b₃ = b₂ .before .before .before .before in
+    let b₄ = b₃ .before .before .before .before in
+    rw (lt-leb _ _ (b₄ .if1 .left), b .apply-marked .ensures, b .before .before .before .charged .ensures, b₂ .before .before .write .ensures, b₃ .before .before .end-argument .ensures)
+
+pub apply-call-spec : {M : Type 1} → statement M
+apply-call-spec =
+    tie.close
+    (tie.spec
+    ends-with-requires
+    returns
+    end-argument-requires
+    write-requires
+    charged-requires
+    apply-marked-requires
+    same-length
+    same-length-2
+    returns-2)

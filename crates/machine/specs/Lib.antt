@@ -1,0 +1,6 @@
+pub mod Walks
+pub mod Machine
+pub mod Items
+pub mod Frames
+pub mod Held
+pub mod Moving

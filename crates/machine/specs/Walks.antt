@@ -1,0 +1,163 @@
+-- Walks over lent cells: what each function answers, exactly, for any content of the cells. A walk makes at most so many turns.
+use Prim.Native.Nat.{ℕ, zero, suc, _+_, _*_, _/_, _%_}
+use mathlib.Core.Bool.{Bool, true, false, cond}
+use mathlib.Core.List.{List, [], _∷_}
+use mathlib.Core.Option.{none}
+use lib.ListN.{length, getD, set}
+use lib.Dec.{eqb, leb, ltb}
+use Rattle.memory.specs.Block.{sameBlocks, sameBytes}
+use Rattle.decimal.specs.declared.operations.Operation.{Operation}
+use Rattle.decimal.specs.declared.operations.Answer.{Answer}
+use Rattle.decimal.specs.declared.reader.Reader.{Reader}
+use Rattle.decimal.specs.declared.reader.Operand.{Operand}
+use Rattle.decimal.specs.Answers.{answerOf, operandOf, numberOf, newReader, after, found}
+use Rattle.decimal.specs.Arithmetic.{ofOperands}
+use Rattle.language.specs.Definitions.{Content, macro, builtIn, Definition}
+use Rattle.language.specs.BuiltIns.{builtIns}
+use Rattle.machine.specs.declared.operands.Named.{Named}
+use Rattle.machine.specs.declared.operands.Named.the-variants.{Known, Unknown}
+
+-- no call, and the text
+abbrev pub nowhere : ℕ
+nowhere = 65535
+
+-- ends a list, and is no length
+abbrev pub mark : ℕ
+mark = 65536
+
+-- Numbers in cells ---------------------------------------------------------------------------------------------------
+
+abbrev pub packed : ℕ → ℕ → ℕ
+packed high low = (high % 65536) * 65536 + low % 65536
+
+abbrev pub high : ℕ → ℕ
+high c = c / 65536
+
+abbrev pub low : ℕ → ℕ
+low c = c % 65536
+
+abbrev pub cell : ℕ → ℕ
+cell n = n % 4294967296
+
+-- How a run lies in its cells ----------------------------------------------------------------------------------------
+
+-- the cells of a definition beside its name and the room of its value
+abbrev pub headSize : ℕ
+headSize = 4
+
+-- where the arguments of an open call, or of a list, begin
+abbrev pub argumentsFrom : ℕ
+argumentsFrom = 3
+
+-- the cells of a list beside the bytes of its name and its further arguments
+abbrev pub listOverhead : ℕ
+listOverhead = 5
+
+-- of the definition at p
+abbrev pub nameLength : List ℕ → ℕ → ℕ
+nameLength l p = getD l (p + 1) 0
+
+abbrev pub room : List ℕ → ℕ → ℕ
+room l p = getD l (p + 2) 0
+
+abbrev pub valueLength : List ℕ → ℕ → ℕ
+valueLength l p = getD l (p + 3) 0
+
+abbrev pub withValueLength : List ℕ → ℕ → ℕ → List ℕ
+withValueLength l p count = set l (p + 3) count
+
+-- the head of a definition is written
+abbrev pub withHead : List ℕ → ℕ → ℕ → ℕ → List ℕ
+withHead l p letters bytes = set (set (set (set l p 0) (p + 1) (cell letters)) (p + 2) (cell bytes)) (p + 3) (cell bytes)
+
+-- of the open call, or of the list, at p
+abbrev pub rightBefore : List ℕ → ℕ → ℕ
+rightBefore l p = getD l p 0
+
+abbrev pub withRightBefore : List ℕ → ℕ → ℕ → List ℕ
+withRightBefore l p right = set l p right
+
+abbrev pub listLink : List ℕ → ℕ → ℕ
+listLink l p = getD l (p + 1) 0
+
+abbrev pub returnLink : List ℕ → ℕ → ℕ
+returnLink l p = getD l (p + 2) 0
+
+abbrev pub withLinks : List ℕ → ℕ → ℕ → ℕ → List ℕ
+withLinks l p list back = set (set l (p + 1) list) (p + 2) back
+
+-- Lists and definitions ----------------------------------------------------------------------------------------------
+
+-- the length cell of an argument, counted from the one at p, or nowhere
+unfoldable pub argument : List ℕ → ℕ → ℕ → ℕ
+argument l p zero = cond (leb mark (getD l p 0)) nowhere p
+argument l p (suc k) = let r = argument l (p + (getD l p 0 + 1)) k in cond (leb mark (getD l p 0)) nowhere r
+
+-- the cells of a definition at p
+abbrev pub size : List ℕ → ℕ → ℕ
+size l p = headSize + nameLength l p + room l p
+
+abbrev pub isNamed : List ℕ → ℕ → ℕ → ℕ → ℕ → Bool
+isNamed l p list name count = cond (eqb p list) false (cond (eqb (nameLength l p) count) (sameBlocks (p + headSize) (name + 1) count l) false)
+
+-- the position and the list behind an item
+abbrev pub nextPosition : List ℕ → ℕ → ℕ → ℕ
+nextPosition l p list = cond (eqb p list) (p + high (listLink l p) + listOverhead) (p + size l p)
+
+abbrev pub nextList : List ℕ → ℕ → ℕ → ℕ
+nextList l p list = cond (eqb p list) (low (listLink l p)) list
+
+unfoldable pub newestFrom : ℕ → List ℕ → ℕ → ℕ → ℕ → ℕ → ℕ
+newestFrom zero l p list name count = nowhere
+newestFrom (suc t) l p list name count =
+    let r = newestFrom t l (nextPosition l p list) (nextList l p list) name count in
+    cond (leb (length l) p) nowhere (cond (isNamed l p list name count) p r)
+
+-- the newest definition with the name at a length cell, or nowhere
+abbrev pub newest : List ℕ → ℕ → ℕ → ℕ → ℕ
+newest l right list name = newestFrom (length l) l right list name (getD l name 0)
+
+unfoldable pub definitionsFrom : ℕ → List ℕ → ℕ → ℕ → ℕ
+definitionsFrom zero l p to = 0
+definitionsFrom (suc t) l p to = let r = definitionsFrom t l (p + size l p) to in cond (leb to p) 0 (suc r)
+
+-- how many definitions stand from one position to another
+abbrev pub definitions : List ℕ → ℕ → ℕ → ℕ
+definitions l from to = definitionsFrom (length l) l from to
+
+unfoldable pub isReadFrom : ℕ → List ℕ → ℕ → ℕ → ℕ → Bool
+isReadFrom zero l list body definition = false
+isReadFrom (suc t) l list body definition =
+    let r = isReadFrom t l (low (listLink l list)) (high (returnLink l list)) definition in
+    cond (eqb list nowhere) false (cond (eqb body definition) true r)
+
+-- whether the body of a definition is being read
+abbrev pub isRead : List ℕ → ℕ → ℕ → ℕ → Bool
+isRead l list body definition = isReadFrom (length l) l list body definition
+
+-- The names of the built-ins and the arithmetic ---------------------------------------------------------------------
+
+abbrev pub namedAs : Content → Named
+namedAs (builtIn b) = Known b
+namedAs (macro v room) = Unknown
+
+-- the first of the definitions, built-ins all, that has the name at a length cell
+unfoldable pub namedAmong : List ℕ → ℕ → List Definition → Named
+namedAmong l name [] = Unknown
+namedAmong l name (d ∷ ds) =
+    let r = namedAmong l name ds in
+    cond (sameBytes (name + 1) (getD l name 0) (d .name) l) (namedAs (d .content)) r
+
+abbrev pub builtInNamed : List ℕ → ℕ → Named
+builtInNamed l name = namedAmong l name builtIns
+
+-- the operand in the argument at a length cell, byte by byte
+unfoldable pub readBytes : ℕ → List ℕ → ℕ → Reader → Reader
+readBytes zero l p reader = reader
+readBytes (suc k) l p reader = readBytes k l (p + 1) (after reader (getD l p 0 % 256))
+
+abbrev pub operandAt : List ℕ → ℕ → Operand
+operandAt l p = operandOf (cond (ltb (length l) (getD l p 0)) none (found (readBytes (getD l p 0) l (p + 1) newReader)))
+
+abbrev pub calculate : Operation → List ℕ → ℕ → ℕ → Answer
+calculate op l first second = answerOf (ofOperands op (numberOf (operandAt l first)) (numberOf (operandAt l second)))

@@ -1,0 +1,144 @@
+// Walks over the cells. Each makes at most so many turns, and answers NOWHERE where what it looks for is not there.
+use crate::layout;
+use crate::run::Run;
+ghost use mathlib.Core.Path.{_≡_};
+ghost use Prim.Native.Nat.{_≤_, _<_};
+ghost use lib.ListN.{length};
+ghost use Rattle.machine.specs.Walks.{argument, size, isNamed, nextPosition, nextList, newest, definitions, isRead};
+
+// The length cell of an argument of a list, counted from the one at `from`.
+pub(crate) fn argument(cells: &[u32], from: usize, index: usize) -> usize
+    requires { ⌜ (from ≤ 65540) × (index ≤ 65535) ⌝ }
+    ensures { λ r. ⌜ (r ≡ argument (now (cells .entry)) from index) × (r ≤ 8589934592) ⌝ }
+{
+    let mut due = index;
+    let mut position = from;
+    while due > 0 {
+        let length = memory::read(cells, position);
+        if length >= layout::MARK {
+            return Run::NOWHERE;
+        }
+        position += length as usize + 1;
+        due -= 1;
+    }
+    if memory::read(cells, position) >= layout::MARK {
+        return Run::NOWHERE;
+    }
+    position
+}
+
+// Where a walk over the right stack is: at an item, with the next list from there on.
+pub struct Place {
+    pub position: usize,
+    pub list: usize,
+}
+
+// The newest definition with the name at a length cell.
+pub(crate) fn newest(cells: &[u32], right: usize, list: usize, name: usize) -> usize
+    requires { ⌜ (length (now cells) ≤ 65536) × (right ≤ 65536) × (name ≤ 8589934592) ⌝ }
+    ensures { λ r. ⌜ r ≡ newest (now (cells .entry)) right list name ⌝ }
+{
+    let count = memory::read(cells, name) as usize;
+    let mut turns = cells.len();
+    let mut place = Place {
+        position: right,
+        list,
+    };
+    while turns > 0 {
+        let position = place.position;
+        if position >= cells.len() {
+            return Run::NOWHERE;
+        }
+        if is_named(cells, place, name, count) {
+            return position;
+        }
+        place = next_item(cells, place);
+        turns -= 1;
+    }
+    Run::NOWHERE
+}
+
+// Whether a definition stands here and has this name.
+fn is_named(cells: &[u32], place: Place, name: usize, count: usize) -> bool
+    requires { ⌜ (place .position ≤ 65536) × (name ≤ 8589934592) ⌝ }
+    ensures { λ r. ⌜ r ≡ isNamed (now (cells .entry)) (place .position) (place .list) name count ⌝ }
+{
+    let position = place.position;
+    if position == place.list {
+        return false;
+    }
+    let letters = layout::name_length(cells, position) as usize;
+    if letters != count {
+        return false;
+    }
+    memory::same_blocks(cells, position + layout::HEAD_SIZE, name + 1, count)
+}
+
+// The item behind this one.
+fn next_item(cells: &[u32], place: Place) -> Place
+    requires { ⌜ place .position ≤ 65536 ⌝ }
+    ensures { λ r. ⌜ (r .position ≡ nextPosition (now (cells .entry)) (place .position) (place .list)) × (r .list ≡ nextList (now (cells .entry)) (place .position) (place .list)) ⌝ }
+{
+    let position = place.position;
+    if position == place.list {
+        let links = layout::list_link(cells, position);
+        return Place {
+            position: position + layout::high(links) + layout::LIST_OVERHEAD,
+            list: layout::low(links),
+        };
+    }
+    Place {
+        position: position + size(cells, position),
+        list: place.list,
+    }
+}
+
+// The cells of a definition.
+fn size(cells: &[u32], definition: usize) -> usize
+    requires { ⌜ definition ≤ 4294967296 ⌝ }
+    ensures { λ r. ⌜ (r ≡ size (now (cells .entry)) definition) × (r ≤ 8589934594) ⌝ }
+{
+    let letters = layout::name_length(cells, definition) as usize;
+    layout::HEAD_SIZE + letters + layout::room(cells, definition) as usize
+}
+
+// How many definitions stand from one position to another.
+pub(crate) fn definitions(cells: &[u32], from: usize, to: usize) -> usize
+    requires { ⌜ (length (now cells) ≤ 65536) × (from ≤ 4294967296) × (to ≤ 4294967296) ⌝ }
+    ensures { λ r. ⌜ r ≡ definitions (now (cells .entry)) from to ⌝ }
+{
+    let mut turns = cells.len();
+    let mut position = from;
+    let mut count = 0;
+    while turns > 0 {
+        if position >= to {
+            return count;
+        }
+        position += size(cells, position);
+        count += 1;
+        turns -= 1;
+    }
+    count
+}
+
+// Whether the body of a definition is being read.
+pub(crate) fn is_read(cells: &[u32], innermost: usize, reading: usize, definition: usize) -> bool
+    requires { ⌜ innermost ≤ 65535 ⌝ }
+    ensures { λ r. ⌜ r ≡ isRead (now (cells .entry)) innermost reading definition ⌝ }
+{
+    let mut turns = cells.len();
+    let mut list = innermost;
+    let mut body = reading;
+    while turns > 0 {
+        if list == Run::NOWHERE {
+            return false;
+        }
+        if body == definition {
+            return true;
+        }
+        body = layout::high(layout::return_link(cells, list));
+        list = layout::low(layout::list_link(cells, list));
+        turns -= 1;
+    }
+    false
+}

@@ -1,0 +1,88 @@
+// The names of the built-ins and the arithmetic.
+use decimal::operations::Answer;
+use decimal::operations::Operation;
+use decimal::reader::Operand;
+use decimal::reader::Reader;
+use language::built_ins::BuiltIn;
+ghost use mathlib.Core.Path.{_≡_};
+ghost use Prim.Native.Nat.{_≤_};
+ghost use lib.ListN.{length, drop};
+ghost use Rattle.language.specs.BuiltIns.{builtIns};
+ghost use Rattle.machine.specs.Walks.{builtInNamed, namedAmong, operandAt, calculate};
+
+// The built-in that has a name, or that none has it.
+pub enum Named {
+    Known(BuiltIn),
+    Unknown,
+}
+
+// Which built-in has the name at a length cell.
+pub(crate) fn built_in(cells: &[u32], name: usize) -> Named
+    requires { ⌜ name ≤ 8589934592 ⌝ }
+    ensures { λ r. ⌜ r ≡ builtInNamed (now (cells .entry)) name ⌝ }
+{
+    let count = memory::read(cells, name) as usize;
+    if memory::same_bytes(cells, name + 1, count, b"DEF") {
+        return Named::Known(BuiltIn::Def);
+    }
+    if memory::same_bytes(cells, name + 1, count, b"VAL") {
+        return Named::Known(BuiltIn::Val);
+    }
+    if memory::same_bytes(cells, name + 1, count, b"UPDATE") {
+        return Named::Known(BuiltIn::Update);
+    }
+    arithmetic(cells, name)
+}
+
+// Which of the arithmetic.
+fn arithmetic(cells: &[u32], name: usize) -> Named
+    requires { ⌜ name ≤ 8589934592 ⌝ }
+    ensures { λ r. ⌜ r ≡ namedAmong (now (cells .entry)) name (drop 3 builtIns) ⌝ }
+{
+    let count = memory::read(cells, name) as usize;
+    if memory::same_bytes(cells, name + 1, count, b"+") {
+        return Named::Known(BuiltIn::Arithmetic(Operation::Sum));
+    }
+    if memory::same_bytes(cells, name + 1, count, b"-") {
+        return Named::Known(BuiltIn::Arithmetic(Operation::Difference));
+    }
+    if memory::same_bytes(cells, name + 1, count, b"*") {
+        return Named::Known(BuiltIn::Arithmetic(Operation::Product));
+    }
+    if memory::same_bytes(cells, name + 1, count, b"Quot") {
+        return Named::Known(BuiltIn::Arithmetic(Operation::Quotient));
+    }
+    if memory::same_bytes(cells, name + 1, count, b"Rem") {
+        return Named::Known(BuiltIn::Arithmetic(Operation::Remainder));
+    }
+    Named::Unknown
+}
+
+// The operation of a built-in on two arguments.
+pub(crate) fn calculate(operation: Operation, cells: &[u32], first: usize, second: usize) -> Answer
+    requires { ⌜ (length (now cells) ≤ 65536) × (first ≤ 8589934592) × (second ≤ 8589934592) ⌝ }
+    ensures { λ r. ⌜ r ≡ calculate operation (now (cells .entry)) first second ⌝ }
+{
+    operation.of(operand(cells, first), operand(cells, second))
+}
+
+// The operand in the argument at a length cell.
+fn operand(cells: &[u32], argument: usize) -> Operand
+    requires { ⌜ (length (now cells) ≤ 65536) × (argument ≤ 8589934592) ⌝ }
+    ensures { λ r. ⌜ r ≡ operandAt (now (cells .entry)) argument ⌝ }
+{
+    let count = memory::read(cells, argument) as usize;
+    if cells.len() < count {
+        return Operand::NoNumber;
+    }
+    let mut reader = Reader::new();
+    let mut due = count;
+    let mut position = argument + 1;
+    while due > 0 {
+        let byte = (memory::read(cells, position) % 256) as u8;
+        reader = reader.take(byte);
+        position += 1;
+        due -= 1;
+    }
+    reader.finish()
+}
