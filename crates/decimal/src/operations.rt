@@ -56,7 +56,7 @@ impl Answer {
 
     const DIVISOR_ZERO: u32 = 23;
 
-    const OUT_OF_RANGE: u32 = 24;
+    const RESULT_OUT_OF_RANGE: u32 = 24;
 
     fn refused(outcome: u32) -> Answer
         ensures { λ r. ⌜ r ≡ answerOf (refused outcome) ⌝ }
@@ -81,10 +81,10 @@ impl Answer {
         ensures { λ r. ⌜ r ≡ answerOf (ranged value) ⌝ }
     {
         if value < -2147483648 {
-            return Answer::refused(Answer::OUT_OF_RANGE);
+            return Answer::refused(Answer::RESULT_OUT_OF_RANGE);
         }
         if value > 2147483647 {
-            return Answer::refused(Answer::OUT_OF_RANGE);
+            return Answer::refused(Answer::RESULT_OUT_OF_RANGE);
         }
         Answer::number(value as i32)
     }
@@ -107,7 +107,7 @@ fn negated(value: i32) -> Answer
     ensures { λ r. ⌜ r ≡ answerOf (ranged (negℤ value)) ⌝ }
 {
     if value == -2147483648 {
-        return Answer::refused(Answer::OUT_OF_RANGE);
+        return Answer::refused(Answer::RESULT_OUT_OF_RANGE);
     }
     Answer::number(-value)
 }

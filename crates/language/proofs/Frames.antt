@@ -100,13 +100,13 @@ threeCost (a ∷ b ∷ c ∷ more) h = omega arith
 
 valueAllowed : (list : List Bytes) (ds : List Definition) (F : Found) → Allowed list ds (valueOf F)
 valueAllowed list ds missing = tt
-valueAllowed list ds (found k (macro v room)) = tt
+valueAllowed list ds (found k (macro x)) = tt
 valueAllowed list ds (found k (builtIn b)) = tt
 
 updateAllowed : (list : List Bytes) (ds : List Definition) (busy : List ℕ) (w : Bytes) (F : Found) → Allowed list ds (updateOf busy w F)
 updateAllowed list ds busy w missing = tt
 updateAllowed list ds busy w (found k (builtIn b)) = tt
-updateAllowed list ds busy w (found k (macro v room)) = go (among k busy) (ltb room (length w))
+updateAllowed list ds busy w (found k (macro x)) = go (among k busy) (ltb (x .room) (length w))
   where
     go : (a b : Bool) → Allowed list ds (cond a (faulty Outcomes.bodyBeingRead) (cond b (faulty Outcomes.updateTooLong) (alters k w)))
     go true true = tt
@@ -135,7 +135,7 @@ deedAllowed busy list ds = go (newest (parameter 0 list) ds) refl
 
     go : (F : Found) → newest (parameter 0 list) ds ≡ F → Allowed list ds (deedOf busy list ds F)
     go missing e = tt
-    go (found k (macro v room)) e = newestStands (parameter 0 list) ds k (macro v room) e
+    go (found k (macro x)) e = newestStands (parameter 0 list) ds k (macro x) e
     go (found k (builtIn b)) e = test b (ltb (needs b) (length list)) refl
 
 -- 3. The invariant ---------------------------------------------------------------------------------------------------

@@ -134,13 +134,13 @@ Sound (faulty n) = So (endOfText n)
 value-sound : (f : Found) → Sound (valueOf f)
 value-sound missing = tt
 value-sound (found k (builtIn b)) = tt
-value-sound (found k (macro v room)) = tt
+value-sound (found k (macro x)) = tt
 
 -- those of UPDATE
 update-sound : (js : List ℕ) (w : Bytes) (f : Found) → Sound (updateOf js w f)
 update-sound js w missing = tt
 update-sound js w (found k (builtIn b)) = tt
-update-sound js w (found k (macro v room)) = either Sound (among k js) tt (either Sound (ltb room (length w)) tt tt)
+update-sound js w (found k (macro x)) = either Sound (among k js) tt (either Sound (ltb (x .room) (length w)) tt tt)
 
 -- those of arithmetic: 22, 23 and 24
 arithmetic-sound : (op : Operation) (a b : Option ℤ) → Sound (resultOf (ofOperands op a b))
@@ -162,7 +162,7 @@ performed-sound js list ds (Arithmetic op) = arithmetic-sound op (operand (param
 -- those of a call whose name was looked for
 found-sound : (js : List ℕ) (list : List Bytes) (ds : List Definition) (f : Found) → Sound (deedOf js list ds f)
 found-sound js list ds missing = tt
-found-sound js list ds (found k (macro v room)) = tt
+found-sound js list ds (found k (macro x)) = tt
 found-sound js list ds (found k (builtIn b)) = either Sound (ltb (needs b) (length list)) (performed-sound js list ds b) tt
 
 -- every fault of an applied call is of the text

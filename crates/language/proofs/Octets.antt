@@ -1,11 +1,12 @@
 -- Document 01: "A text is bytes, each 8 bits." So is every string that a run holds, where the text and the definitions it
 -- starts from are.
+use borrow.Author.Tests.{ltb-true}
 use Prim.Native.Nat.{ℕ, zero, suc, _<_, _+_, _-_, max}
 use Prim.Native.String.{String}
 use native.Mathlib.Omega.{arith}
-use mathlib.Core.Path.{_≡_}
+use mathlib.Core.Path.{_≡_, refl, sym}
 use mathlib.Core.Logic.{inl, inr}
-use mathlib.Core.Bool.{Bool, true, false}
+use mathlib.Core.Bool.{Bool, true, false, cond, true≢false}
 use mathlib.Core.List.{List, [], _∷_, _++_}
 use mathlib.Core.Option.{Option, none, some}
 use lib.ListN.{length, drop, getD}
@@ -16,7 +17,7 @@ use Rattle.decimal.proofs.Laws.{shortest-bytes}
 use Rattle.language.specs.Signs.{Bytes, ascii, Table, Meaning, copied, leftOut, opens, separates, applies, fetches, unquotes, meaning, parameterNumber}
 use Rattle.language.specs.declared.built_ins.BuiltIn.{BuiltIn}
 use Rattle.language.specs.declared.built_ins.BuiltIn.the-variants.{Def, Val, Update, Arithmetic}
-use Rattle.language.specs.Definitions.{Content, macro, builtIn, Definition, Found, found, missing, same, newest, valued, altered, oldest, among}
+use Rattle.language.specs.Definitions.{Content, macro, builtIn, Definition, Found, found, missing, same, newest, valued, altered, oldest, among, counts, live}
 use Rattle.language.specs.BuiltIns.{Deed, reads, defines, gives, alters, faulty, named, builtIns, needs, parameter, valueOf, updateOf, resultOf, performed, deedOf, deed}
 use Rattle.language.specs.Charge.{openPrice, endPrice}
 use Rattle.language.specs.Ends.{End}
@@ -78,7 +79,7 @@ newest-octets n (with {x = d} p ps) = either FoundOctets (same n (d .name)) (p .
 
 -- a content with its value set anew
 valued-octets : {v : Bytes} → Octets v → (c : Content) → ContentOctets (valued v c)
-valued-octets p (macro w room) = p
+valued-octets p (macro x) = p
 valued-octets p (builtIn b) = tt
 
 -- definitions, the value of number k set anew
@@ -100,13 +101,13 @@ DeedOctets (faulty n) = Unit {0}
 -- VAL
 value-octets : (f : Found) → FoundOctets f → DeedOctets (valueOf f)
 value-octets missing p = tt
-value-octets (found k (macro v room)) p = p
+value-octets (found k (macro x)) p = p
 value-octets (found k (builtIn b)) p = tt
 
 -- UPDATE
 update-octets : (ks : List ℕ) (w : Bytes) → Octets w → (f : Found) → DeedOctets (updateOf ks w f)
 update-octets ks w p missing = tt
-update-octets ks w p (found k (macro v room)) = either DeedOctets (among k ks) tt (either DeedOctets (ltb room (length w)) tt p)
+update-octets ks w p (found k (macro x)) = either DeedOctets (among k ks) tt (either DeedOctets (ltb (x .room) (length w)) tt p)
 update-octets ks w p (found k (builtIn b)) = tt
 
 -- arithmetic
@@ -125,7 +126,7 @@ module _ (ks : List ℕ) {list : List Bytes} (P : All Octets list) {ds : List De
   -- by what the name is found to be
   deed-of-octets : (f : Found) → FoundOctets f → DeedOctets (deedOf ks list ds f)
   deed-of-octets missing p = tt
-  deed-of-octets (found k (macro v room)) p = p
+  deed-of-octets (found k (macro x)) p = p
   deed-of-octets (found k (builtIn b)) p = either DeedOctets (ltb (needs b) (length list)) (performed-octets b) tt
 
   -- what a call does
@@ -309,15 +310,30 @@ octets-kept L T s g = from-octets L T s (g .bodies) (g .text) g
 pub octets-start : {t : Bytes} {ds : List Definition} → Octets t → All DefinitionOctets ds → HoldsOctets (S.start t ds)
 octets-start p D = holds p empty empty D empty
 
--- as those of the built-ins are,
-pub built-ins-octets : All DefinitionOctets builtIns
-built-ins-octets =
-    with (name "DEF" (omega arith)) (with (name "VAL" (omega arith)) (with (name "UPDATE" (omega arith)) (with (name "+" (omega arith))
-    (with (name "-" (omega arith)) (with (name "*" (omega arith)) (with (name "Quot" (omega arith)) (with (name "Rem" (omega arith)) empty)))))))
+-- as those are that are not counted and whose names are of bytes,
+unfoldable smallNames : List Definition → Bool
+smallNames [] = true
+smallNames (d ∷ ds) = let r = smallNames ds in cond (ltb (largest (d .name)) 256) r false
+
+uncounted-octets : (ds : List Definition) → live ds ≡ 0 → smallNames ds ≡ true → All DefinitionOctets ds
+unfolding live smallNames
+uncounted-octets [] e h = empty
+uncounted-octets (d ∷ ds) e h = go (ltb (largest (d .name)) 256) refl h (uncounted-octets ds (omega arith))
   where
-    -- one of them: its name alone is a string
-    name : (n : String) {b : BuiltIn} → largest (ascii n) < 256 → DefinitionOctets (named (ascii n) b)
-    name n h = record { name = largest-octets (ascii n) h; content = tt }
+    content : (c : Content) → counts c ≡ 0 → ContentOctets c
+    content (macro x) e = absurd (omega arith)
+    content (builtIn b) e = tt
+
+    go : (t : Bool) → ltb (largest (d .name)) 256 ≡ t → cond t (smallNames ds) false ≡ true → (smallNames ds ≡ true → All DefinitionOctets ds) → All DefinitionOctets (d ∷ ds)
+    go true q h older =
+        with (record { name = largest-octets (d .name) (ltb-true (largest (d .name)) 256 q); content = content (d .content) (omega arith) })
+        (older h)
+    go false q h older = absurd (true≢false (sym h))
+
+-- the built-ins among them,
+pub built-ins-octets : All DefinitionOctets builtIns
+unfolding live smallNames
+built-ins-octets = uncounted-octets builtIns refl refl
 
 module _ (L : Limits) (T : Table) {t : Bytes} {ds : List Definition} (p : Octets t) (D : All DefinitionOctets ds) (n : ℕ) where
   -- what a run from there comes to

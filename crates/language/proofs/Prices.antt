@@ -63,7 +63,7 @@ length-without n m ds h k =
 
 -- an altered value moves no definition and changes no price
 content-price : (n : ℕ) (v : Bytes) (c : Content) → contentPrice n (valued v c) ≡ contentPrice n c
-content-price n v (macro w room) = refl
+content-price n v (macro x) = refl
 content-price n v (builtIn b) = refl
 
 pub price-altered : (k : ℕ) (v : Bytes) (ds : List Definition) → definitionsPrice (altered k v ds) ≡ definitionsPrice ds

@@ -21,7 +21,7 @@ use Rattle.language.specs.Outcomes
 use Rattle.language.specs.Outcomes.{finishes}
 use Rattle.language.specs.declared.built_ins.BuiltIn.{BuiltIn}
 use Rattle.language.specs.declared.built_ins.BuiltIn.the-variants.{Def, Val, Update, Arithmetic}
-use Rattle.language.specs.Definitions.{Content, macro, builtIn, Definition, Found, found, missing, same, newest, valued, altered, oldest, without, among}
+use Rattle.language.specs.Definitions.{Content, macro, builtIn, Definition, Found, found, missing, same, newest, valued, altered, oldest, without, among, counts, live}
 use Rattle.language.specs.BuiltIns.{Deed, reads, defines, gives, alters, faulty, builtIns, needs, parameter, valueOf, updateOf, resultOf, performed, deedOf, deed}
 use Rattle.language.specs.Charge.{openPrice, endPrice}
 use Rattle.language.specs.Ends.{End}
@@ -140,7 +140,7 @@ module _ (T : Table) where
 
   -- UPDATE with a matched value
   valued-matches : (v : Bytes) → Matched T v → (c : Content) → ContentMatches T (valued v c)
-  valued-matches v m (macro w room) = m
+  valued-matches v m (macro x) = m
   valued-matches v m (builtIn b) = tt
 
   altered-matches : (k : ℕ) (v : Bytes) → Matched T v → {ds : List Definition} → All (ValueMatches T) ds
@@ -168,13 +168,13 @@ module _ (T : Table) where
   -- VAL
   value-matches : (f : Found) → FoundMatches f → DeedMatches (valueOf f)
   value-matches missing m = refl
-  value-matches (found k (macro v room)) m = m
+  value-matches (found k (macro x)) m = m
   value-matches (found k (builtIn b)) m = refl
 
   -- UPDATE
   update-matches : (ks : List ℕ) (w : Bytes) → Matched T w → (f : Found) → DeedMatches (updateOf ks w f)
   update-matches ks w m missing = refl
-  update-matches ks w m (found k (macro v room)) = either DeedMatches (among k ks) refl (either DeedMatches (ltb room (length w)) refl m)
+  update-matches ks w m (found k (macro x)) = either DeedMatches (among k ks) refl (either DeedMatches (ltb (x .room) (length w)) refl m)
   update-matches ks w m (found k (builtIn b)) = refl
 
   module _ (digits : DigitsPlain T) where
@@ -224,7 +224,7 @@ module _ (T : Table) where
       -- by what the name is found to be
       deed-of-matches : (f : Found) → FoundMatches f → DeedMatches (deedOf ks list ds f)
       deed-of-matches missing m = refl
-      deed-of-matches (found k (macro v room)) m = m
+      deed-of-matches (found k (macro x)) m = m
       deed-of-matches (found k (builtIn b)) m = either DeedMatches (ltb (needs b) (length list)) (performed-matches b) refl
 
       -- what a call with a matched list does, where the definitions are matched
@@ -498,9 +498,20 @@ module _ (L : Limits) (T : Table) (digits : DigitsPlain T) where
 pub quotes-start : {T : Table} {ds : List Definition} (t : Bytes) → All (ValueMatches T) ds → QuotesMatch T (start t ds)
 quotes-start {T} t D = record { calls = tt; output = matched-empty T; bodies = tt; values = D }
 
--- The built-ins have no values.
+-- Definitions that are not counted have no values,
+uncounted-match : (T : Table) (ds : List Definition) → live ds ≡ 0 → All (ValueMatches T) ds
+unfolding live
+uncounted-match T [] e = empty
+uncounted-match T (d ∷ ds) e = with (go (d .content) (omega arith)) (uncounted-match T ds (omega arith))
+  where
+    go : (c : Content) → counts c ≡ 0 → ContentMatches T c
+    go (macro x) e = absurd (omega arith)
+    go (builtIn b) e = tt
+
+-- as the built-ins have none.
 pub built-ins-match : (T : Table) → All (ValueMatches T) builtIns
-built-ins-match T = with tt (with tt (with tt (with tt (with tt (with tt (with tt (with tt empty)))))))
+unfolding live
+built-ins-match T = uncounted-match T builtIns refl
 
 -- The standard table has digits and `-` plain.
 pub standard-digits : DigitsPlain standard

@@ -53,14 +53,14 @@ pub data Deed : Type 0 where
 abbrev pub valueOf : Found → Deed
 valueOf missing = faulty Outcomes.notDefined
 valueOf (found k (builtIn b)) = faulty Outcomes.builtIn
-valueOf (found k (macro v room)) = gives v
+valueOf (found k (macro x)) = gives (x .value)
 
 -- "For UPDATE: 15 for the name given, 19, 20, 21."
 abbrev pub updateOf : List ℕ → Bytes → Found → Deed
 updateOf reading w missing = faulty Outcomes.notDefined
 updateOf reading w (found k (builtIn b)) = faulty Outcomes.builtIn
-updateOf reading w (found k (macro v room)) =
-    cond (among k reading) (faulty Outcomes.bodyBeingRead) (cond (ltb room (length w)) (faulty Outcomes.updateTooLong) (alters k w))
+updateOf reading w (found k (macro x)) =
+    cond (among k reading) (faulty Outcomes.bodyBeingRead) (cond (ltb (x .room) (length w)) (faulty Outcomes.updateTooLong) (alters k w))
 
 abbrev pub resultOf : Result → Deed
 resultOf (number z) = gives (shortest z)
@@ -76,7 +76,7 @@ performed reading list ds (Arithmetic op) = resultOf (calculated op (parameter 1
 -- "Checks at `;`: .. 15, 13, then the built-in's": the call with this name and parameters
 abbrev pub deedOf : List ℕ → List Bytes → List Definition → Found → Deed
 deedOf reading list ds missing = faulty Outcomes.notDefined
-deedOf reading list ds (found k (macro v room)) = reads k v
+deedOf reading list ds (found k (macro x)) = reads k (x .value)
 deedOf reading list ds (found k (builtIn b)) =
     let d = performed reading list ds b in
     cond (ltb (needs b) (length list)) d (faulty Outcomes.notSupplied)

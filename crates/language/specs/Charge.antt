@@ -28,7 +28,7 @@ listPrice list = openPrice + argumentsPrice list
 
 -- "A live definition is charged name length + defined value length + 4." "Built-ins cost nothing."
 abbrev pub contentPrice : ℕ → Content → ℕ
-contentPrice n (macro v room) = n + room + 4
+contentPrice n (macro x) = n + x .room + 4
 contentPrice n (builtIn b) = 0
 
 abbrev pub definitionPrice : Definition → ℕ

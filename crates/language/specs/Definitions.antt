@@ -8,8 +8,12 @@ use Rattle.language.specs.Signs.{Bytes}
 use Rattle.language.specs.declared.built_ins.BuiltIn.{BuiltIn}
 
 -- "UPDATE changes the newest definition's value; its permitted length remains that of its DEF."
+pub record Macro : Type 0 where
+  pub value : Bytes
+  pub room : ℕ
+
 pub data Content : Type 0 where
-  macro : Bytes → ℕ → Content
+  macro : Macro → Content
   builtIn : BuiltIn → Content
 
 pub record Definition : Type 0 where
@@ -17,7 +21,7 @@ pub record Definition : Type 0 where
   pub content : Content
 
 abbrev pub defined : Bytes → Bytes → Definition
-defined n v = record { name = n; content = macro v (length v) }
+defined n v = record { name = n; content = macro (record { value = v; room = length v }) }
 
 unfoldable pub same : Bytes → Bytes → Bool
 same [] [] = true
@@ -35,7 +39,7 @@ newest n [] = missing
 newest n (d ∷ ds) = let r = newest n ds in cond (same n (d .name)) (found (length ds) (d .content)) r
 
 abbrev pub valued : Bytes → Content → Content
-valued v (macro w room) = macro v room
+valued v (macro x) = macro (record { value = v; room = x .room })
 valued v (builtIn b) = builtIn b
 
 -- "UPDATE alters the value where the definition stands": that of the definition with this number
@@ -60,7 +64,7 @@ without n m ds = newer m ds ++ oldest n ds
 
 -- "live definitions (built-ins not counted)"
 abbrev pub counts : Content → ℕ
-counts (macro v room) = 1
+counts (macro x) = 1
 counts (builtIn b) = 0
 
 unfoldable pub live : List Definition → ℕ

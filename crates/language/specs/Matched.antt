@@ -50,7 +50,7 @@ pub record BodyMatches (T : Table) (q : ℕ) (B : Body) : Type 0 where
 
 -- a macro's value has matched quotes; a built-in has none
 abbrev pub ContentMatches : Table → Content → Type 0
-ContentMatches T (macro v room) = Matched T v
+ContentMatches T (macro x) = Matched T (x .value)
 ContentMatches T (builtIn b) = Unit {0}
 
 -- the value of a definition

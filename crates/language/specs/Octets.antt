@@ -22,7 +22,7 @@ pub record BodyOctets (B : Body) : Type 0 where
 
 -- a macro's value; a built-in has none
 abbrev pub ContentOctets : Content → Type 0
-ContentOctets (macro v room) = Octets v
+ContentOctets (macro x) = Octets (x .value)
 ContentOctets (builtIn b) = Unit {0}
 
 -- a definition

@@ -14,8 +14,9 @@ use Rattle.language.specs.Definitions.{Definition, altered, valued, among, macr
 use Rattle.language.specs.Scanning.{reading}
 use Rattle.memory.specs.Block.{placed}
 use Rattle.machine.proofs.Items.{encode-append, width-append, width-cons, definitions-append, count-append}
-use Rattle.machine.specs.Items.{Item, defined, listed, encodeItem, encode, width, definitionsOf, count, Definitions}
+use Rattle.machine.specs.Items.{definitionOf, Item, defined, listed, encodeItem, encode, width, definitionsOf, count, Definitions}
 use Rattle.machine.specs.Frames.{Frame, made, collects, reads, address, At, here, there, applying, laid, items, places, lefts, calls, bodies, Valid}
+use Rattle.machine.specs.Walks.{headSize, withValueLength}
 
 -- Items --------------------------------------------------------------------------------------------------------------
 
@@ -220,7 +221,7 @@ overwritten a b c w x y i j e h =
 
 -- the cells with the value w and its length stored in the definition of this name at d
 abbrev pub stored : ℕ → Bytes → Bytes → List ℕ → List ℕ
-stored d name w l = set (placed (d + 4 + length name) w l) (d + 3) (length w)
+stored d name w l = withValueLength (placed (d + headSize + length name) w l) d (length w)
 
 module _ {n base d k : ℕ} {its : List Item} {v : Bytes} (s : Spot n base its d k v) (w : Bytes) (fit : length w ≤ length v + length (s .spare)) where
   -- what the new value leaves of the room
@@ -247,7 +248,7 @@ module _ {n base d k : ℕ} {its : List Item} {v : Bytes} (s : Spot n base its d
   unfolding definitionsOf
   alterDefinitions older e =
       let q = s .number in
-      let x : Definition = record { name = s .name; content = macro v (length v + length (s .spare)) } in
+      let x : Definition = definitionOf (s .name) v (s .spare) in
       rw (alterIs, s .is)
       (simp (definitions-append, append-assoc, sameRoom)
       (sym (altered-at k w (definitionsOf (s .newer)) x (definitionsOf (s .older) ++ older) (omega (arith, length-append (definitionsOf (s .older)) older)))))
@@ -277,7 +278,7 @@ module _ {n base d k : ℕ} {its : List Item} {v : Bytes} (s : Spot n base its d
           width-append (s .newer) (i ∷ s .older),
         ) in
         ap (stored d (s .name) w) whole
-        ∙ overwritten a (s .name) c w (length v) (length w) (d + 3) (d + 4 + length (s .name)) first (omega arith)
+        ∙ overwritten a (s .name) c w (length v) (length w) (d + 3) (d + headSize + length (s .name)) first (omega arith)
         ∙ rw (alterIs, encode-append, drop-append-le (length w) (v ++ s .spare) (encode (s .older)) (omega (arith, length-append v (s .spare))), sameRoom) (simp append-assoc)
 
     -- as many cells as before

@@ -11,7 +11,7 @@ use lib.Dec.{ltb}
 use borrow.Author.Tests.{lt-ltb, ltb-true}
 use Rattle.language.specs.Signs.{Bytes}
 use Rattle.language.specs.Definitions.{Definition}
-use Rattle.language.specs.Charge.{argumentsPrice, definitionsPrice}
+use Rattle.language.specs.Charge.{argumentsPrice, openPrice, definitionsPrice}
 use Rattle.language.specs.Scanning.{State, callsBelow}
 use Rattle.language.specs.Scanning as S
 use Rattle.language.specs.Expansion.{Lent, lent}
@@ -84,7 +84,7 @@ appliedOf {n} {older} {whole} {start} {r} {l} {o} {s} free h own e =
     let leftsEq : take (r .calls .left) l ≡ lefts n b (x .under) ++ encodeCall (address n U) (p .list) (packed (p .hand) (p .call)) (x .waits) (x .ended) (x .hand) =
     h .leftsAre ∙ ap (lefts n b) (x .is) ∙ madeLefts n b (x .since) (C ∷ x .under) in
     let a = arguments-last (x .ended) (x .hand) in
-    let leftEq : r .calls .left ≡ p .left + (4 + (argumentsPrice (x .ended) + length (x .hand))) = ap (λ (q : Places). q .left) placesEq in
+    let leftEq : r .calls .left ≡ p .left + (openPrice + (argumentsPrice (x .ended) + length (x .hand))) = ap (λ (q : Places). q .left) placesEq in
     let callEq : r .calls .call ≡ p .left = ap (λ (q : Places). q .call) placesEq in
     let handEq : r .calls .hand ≡ p .left + 3 + argumentsPrice (x .ended) = ap (λ (q : Places). q .hand) placesEq in
     let head : List ℕ = address n U ∷ p .list ∷ packed (p .hand) (p .call) ∷ [] in

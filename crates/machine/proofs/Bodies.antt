@@ -8,7 +8,7 @@ use borrow.Author.Tests.{leb-false}
 use lib.ListN.{getD}
 use lib.Dec.{leb}
 use Rattle.machine.specs.Machine.{bodyByte}
-use Rattle.machine.specs.Walks.{nowhere}
+use Rattle.machine.specs.Walks.{nowhere, valueLength}
 use Rattle.machine.specs.declared.run.Run.{Run}
 
 left-of : {A : Type 0} (t : Bool) (a b : A) → (cond t a b ≡ a → ⊥) → t ≡ false
@@ -16,10 +16,10 @@ left-of true a b h = absurd (h refl)
 left-of false a b h = refl
 
 module _ (r : Run) (l : List ℕ) {b : ℕ} (e : b ≡ bodyByte r l) (h : b ≡ nowhere → ⊥) where
-  goes-on : leb (getD l (r .source .body + 3) 0) (r .source .offset) ≡ false
+  goes-on : leb (valueLength l (r .source .body)) (r .source .offset) ≡ false
   goes-on = left-of _ _ _ (λ q. h (e ∙ q))
 
-  pub inside : r .source .offset < getD l (r .source .body + 3) 0
+  pub inside : r .source .offset < valueLength l (r .source .body)
   inside = leb-false _ _ goes-on
 
   pub small : b < 256

@@ -16,7 +16,7 @@ use Rattle.language.proofs.Prices.{arguments-last, price-append}
 use Rattle.memory.specs.Block.{placed, block, moved}
 use Rattle.memory.proofs.Blocks.{moved-in}
 use Rattle.machine.specs.declared.run.Run.{Run}
-use Rattle.machine.specs.Walks.{listOverhead, mark, packed, high, low, definitions}
+use Rattle.machine.specs.Walks.{listOverhead, mark, packed, high, low, definitions, argumentsFrom, returnLink, withLinks}
 use Rattle.machine.specs.Machine as M
 use Rattle.machine.proofs.Items.{encode-append, width-append, width-cons, count-append, definitions-append, arguments-size, list-size}
 use Rattle.machine.proofs.Stack.{leftIs as framesLeft}
@@ -82,9 +82,9 @@ module _ {n : ℕ} {older : List Definition} {whole start : List ℕ} {r : Run} 
   widths = let w = width-append (a .since) U in (w, omega (arith, a .shows .stands .right))
 
   -- the cells of the list, from its head on
-  pub argumentsAt : drop (r .calls .call + 3) l ≡ encodeArguments list ++ (mark ∷ rest)
+  pub argumentsAt : drop (r .calls .call + argumentsFrom) l ≡ encodeArguments list ++ (mark ∷ rest)
   argumentsAt =
-      ap (λ (k : ℕ). drop (k + 3) l) (sym underSize)
+      ap (λ (k : ℕ). drop (k + argumentsFrom) l) (sym underSize)
       ∙ ap (drop (length (lefts n b (a .under)) + 3)) (a .cells)
       ∙ drop-append-add (lefts n b (a .under)) (to ∷ p .list ∷ packed (p .hand) (p .call) ∷ (encodeArguments list ++ (mark ∷ rest))) 3
 
@@ -98,7 +98,7 @@ module _ {n : ℕ} {older : List Definition} {whole start : List ℕ} {r : Run} 
   pub toIs : getD l (r .calls .call) 0 ≡ to
   toIs = let z : r .calls .call + 0 ≡ r .calls .call = omega arith in ap (λ (k : ℕ). getD l k 0) (sym z) ∙ headAt 0 to refl
 
-  pub linksIs : getD l (r .calls .call + 2) 0 ≡ packed (p .hand) (p .call)
+  pub linksIs : returnLink l (r .calls .call) ≡ packed (p .hand) (p .call)
   linksIs = headAt 2 (packed (p .hand) (p .call)) refl
 
   pub outerCall : low (packed (p .hand) (p .call)) ≡ p .call
@@ -165,11 +165,11 @@ module _ {n : ℕ} {older : List Definition} {whole start : List ℕ} {r : Run} 
         let lo : length (take at′ l) ≡ at′ = length-take-le at′ l (omega (arith, w .1, a .shows .stands .size)) in
         let one : length (take at′ l ++ (to ∷ [])) ≡ at′ + 1 = omega (arith, length-append (take at′ l) (to ∷ [])) in
         let two : length (take at′ l ++ (to ∷ packed (listPrice list - listOverhead) (p .list) ∷ [])) ≡ at′ + 2 = omega (arith, length-append (take at′ l) (to ∷ packed (listPrice list - listOverhead) (p .list) ∷ [])) in
-        ap (λ (j : ℕ). set (set (moved (r .calls .call) at′ (r .calls .left - r .calls .call + 1) l) (at′ + 1) (packed (j - 5) (r .source .list))) (at′ + 2) (packed (r .source .body) (r .source .offset))) sizeIs
-        ∙ ap (λ (j : ℕ). set (set (moved (r .calls .call) at′ (r .calls .left - r .calls .call + 1) l) (at′ + 1) (packed (listPrice list - listOverhead) j)) (at′ + 2) (packed (r .source .body) (r .source .offset))) (a .listIs)
-        ∙ ap (λ (j : ℕ). set (set (moved (r .calls .call) at′ (r .calls .left - r .calls .call + 1) l) (at′ + 1) (packed (listPrice list - listOverhead) (p .list))) (at′ + 2) (packed j (r .source .offset))) (a .bodyIs)
-        ∙ ap (λ (j : ℕ). set (set (moved (r .calls .call) at′ (r .calls .left - r .calls .call + 1) l) (at′ + 1) (packed (listPrice list - listOverhead) (p .list))) (at′ + 2) (packed (p .body) j)) (a .offsetIs)
-        ∙ ap (λ (t : List ℕ). set (set t (at′ + 1) (packed (listPrice list - listOverhead) (p .list))) (at′ + 2) (packed (p .body) (p .offset))) placedEq
+        ap (λ (j : ℕ). withLinks (moved (r .calls .call) at′ (r .calls .left - r .calls .call + 1) l) at′ (packed (j - listOverhead) (r .source .list)) (packed (r .source .body) (r .source .offset))) sizeIs
+        ∙ ap (λ (j : ℕ). withLinks (moved (r .calls .call) at′ (r .calls .left - r .calls .call + 1) l) at′ (packed (listPrice list - listOverhead) j) (packed (r .source .body) (r .source .offset))) (a .listIs)
+        ∙ ap (λ (j : ℕ). withLinks (moved (r .calls .call) at′ (r .calls .left - r .calls .call + 1) l) at′ (packed (listPrice list - listOverhead) (p .list)) (packed j (r .source .offset))) (a .bodyIs)
+        ∙ ap (λ (j : ℕ). withLinks (moved (r .calls .call) at′ (r .calls .left - r .calls .call + 1) l) at′ (packed (listPrice list - listOverhead) (p .list)) (packed (p .body) j)) (a .offsetIs)
+        ∙ ap (λ (t : List ℕ). withLinks t at′ (packed (listPrice list - listOverhead) (p .list)) (packed (p .body) (p .offset))) placedEq
         ∙ twoSet (take at′ l) to (p .list) (packed (p .hand) (p .call)) (packed (listPrice list - listOverhead) (p .list)) (packed (p .body) (p .offset)) (body ++ drop (r .right) l) at′ lo
 
     -- the standing once the body has begun
@@ -261,7 +261,7 @@ module _ {n : ℕ} {older : List Definition} {whole start : List ℕ} {r : Run} 
   releaseIs q kept o′ c t v e =
       let w = widths in
       let toEq : getD l (q .calls .call) 0 ≡ to = ap (λ (k : ℕ). getD l k 0) c ∙ toIs in
-      let linksEq : getD l (q .calls .call + 2) 0 ≡ packed (p .hand) (p .call) = ap (λ (k : ℕ). getD l (k + 2) 0) c ∙ linksIs in
+      let linksEq : returnLink l (q .calls .call) ≡ packed (p .hand) (p .call) = ap (λ (k : ℕ). returnLink l k) c ∙ linksIs in
       let goneEq : definitions l (q .right) (getD l (q .calls .call) 0) ≡ count (a .since) =
       ap (λ (k : ℕ). definitions l k (getD l (q .calls .call) 0)) t ∙ ap (λ (k : ℕ). definitions l (r .right) k) toEq ∙ goneIs in
       rw (

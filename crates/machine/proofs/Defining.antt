@@ -17,14 +17,14 @@ use Rattle.language.specs.Scanning as S
 use Rattle.memory.specs.Block.{placed, block, moved}
 use Rattle.memory.proofs.Blocks.{moved-in}
 use Rattle.machine.specs.declared.run.Run.{Run}
-use Rattle.machine.specs.Walks.{headSize, withHead, packed, high, low, argument}
+use Rattle.machine.specs.Walks.{headSize, withHead, packed, high, low, argument, argumentsFrom}
 use Rattle.machine.specs.Machine as M
 use Rattle.machine.proofs.Items.{count-width, width-append, width-cons, count-append, definition-size}
 use Rattle.machine.proofs.Represents.{Simulates, goes}
 use Rattle.machine.proofs.Finds.{ArgumentAt, argument-at}
 use Rattle.machine.proofs.Applying.{Applied, listOf}
 use Rattle.machine.proofs.Calling.{argumentsAt, releaseIs, toAbove, underCells, takeCall, leftDefinitions, placesLeft}
-use Rattle.machine.specs.Items.{Item, defined, width, encode, definitionsOf, count}
+use Rattle.machine.specs.Items.{definitionOf, Item, defined, width, encode, definitionsOf, count}
 use Rattle.machine.specs.Frames.{Places, made, address, laid, items, places, lefts, calls, bodies, Valid}
 use Rattle.machine.specs.Held.{Represents}
 use Rattle.machine.proofs.Lists.{cell-is}
@@ -77,15 +77,15 @@ movedTo l u piece from at to count size is before fit e =
 
 -- the cells with a definition put before a position
 putBefore : (l name value : List ℕ) (x y to : ℕ) → block (x + 1) (length name) l ≡ name → block (y + 1) (length value) l ≡ value
-    → x + 1 + length name + length value ≤ to → y + 1 + length value ≤ to → 4 + length name + length value ≤ to → to ≤ length l → to ≤ 65536
+    → x + 1 + length name + length value ≤ to → y + 1 + length value ≤ to → headSize + length name + length value ≤ to → to ≤ length l → to ≤ 65536
     → withHead (moved (x + 1) (to - (length name + length value)) (length name) (moved (y + 1) (to - length value) (length value) l))
-    (to - (4 + length name + length value)) (length name) (length value)
-    ≡ take (to - (4 + length name + length value)) l ++ (0 ∷ length name ∷ length value ∷ length value ∷ (name ++ (value ++ drop to l)))
+    (to - (headSize + length name + length value)) (length name) (length value)
+    ≡ take (to - (headSize + length name + length value)) l ++ (0 ∷ length name ∷ length value ∷ length value ∷ (name ++ (value ++ drop to l)))
 putBefore l name value x y to nameIs valueIs nameFits valueFits fits e small =
     let m = length name in
     let v = length value in
-    let d = to - (4 + m + v) in
-    let four : to - (m + v) ≡ d + 4 = omega arith in
+    let d = to - (headSize + m + v) in
+    let four : to - (m + v) ≡ d + headSize = omega arith in
     let first : moved (y + 1) (to - v) v l ≡ take (to - v) l ++ (value ++ drop to l) =
     ap (moved (y + 1) (to - v) v) (sym (take-append-drop to l)) ∙ movedTo l (drop to l) value (y + 1) (to - v) to v refl valueIs (omega arith) (omega arith) e in
     let second : moved (x + 1) (to - (m + v)) m (take (to - v) l ++ (value ++ drop to l)) ≡ take (to - (m + v)) l ++ (name ++ (value ++ drop to l)) =
@@ -109,10 +109,10 @@ module _ {n : ℕ} {older : List Definition} {whole start : List ℕ} {r : Run} 
   list = listOf a
 
   abbrev first : ℕ
-  first = argument l (r .calls .call + 3) 1
+  first = argument l (r .calls .call + argumentsFrom) 1
 
   abbrev second : ℕ
-  second = argument l (r .calls .call + 3) 2
+  second = argument l (r .calls .call + argumentsFrom) 2
 
   abbrev name : Bytes
   name = parameter 1 list
@@ -142,12 +142,12 @@ module _ {n : ℕ} {older : List Definition} {whole start : List ℕ} {r : Run} 
     toWithin = let w = width-append (a .since) U in (omega arith, a .cellsLent, a .shows .stands .size, omega (arith, a .shows .stands .right))
 
     -- where the name stands
-    nameAt : ArgumentAt l (r .calls .call + 3) list 1 first
-    nameAt = argument-at l (r .calls .call + 3) list (drop (r .calls .left + 1) l) 1 (argumentsAt a) (omega (arith, toAbove a, a .leftIs, toWithin)) (omega arith)
+    nameAt : ArgumentAt l (r .calls .call + argumentsFrom) list 1 first
+    nameAt = argument-at l (r .calls .call + argumentsFrom) list (drop (r .calls .left + 1) l) 1 (argumentsAt a) (omega (arith, toAbove a, a .leftIs, toWithin)) (omega arith)
 
     -- where the value stands
-    valueAt : ArgumentAt l (r .calls .call + 3) list 2 second
-    valueAt = argument-at l (r .calls .call + 3) list (drop (r .calls .left + 1) l) 2 (argumentsAt a) (omega (arith, toAbove a, a .leftIs, toWithin)) long
+    valueAt : ArgumentAt l (r .calls .call + argumentsFrom) list 2 second
+    valueAt = argument-at l (r .calls .call + argumentsFrom) list (drop (r .calls .left + 1) l) 2 (argumentsAt a) (omega (arith, toAbove a, a .leftIs, toWithin)) long
 
     -- the list is longer than the definition, and the name ends before the value
     fits : (first + 1 + length name ≤ second) × (second + 1 + length value ≤ r .calls .left) × (r .calls .call + 3 ≤ first) × (r .calls .left + 1 ≤ to)
@@ -198,8 +198,8 @@ module _ {n : ℕ} {older : List Definition} {whole start : List ℕ} {r : Run} 
               right = omega (arith, width-cons (defined 0 name value []) U, definition-size 0 name value []);
               cells = drop-at (take (to - size) l) tail (to - size) lo ∙ sym encoded;
               definitions =
-                  ap (λ (k : ℕ). record { name = name; content = macro value k } ∷ oldest (b + count U) (s .standing .definitions)) v
-                  ∙ ap (λ (t : List Definition). record { name = name; content = macro value (length value + 0) } ∷ t) (leftDefinitions a);
+                  ap (λ (k : ℕ). record { name = name; content = macro (record { value = value; room = k }) } ∷ oldest (b + count U) (s .standing .definitions)) v
+                  ∙ ap (λ (t : List Definition). definitionOf name value [] ∷ t) (leftDefinitions a);
               live = omega (arith, a .shows .stands .live, count-append (a .since) U);
             };
             read = a .shows .read;

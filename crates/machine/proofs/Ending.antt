@@ -18,7 +18,7 @@ use Rattle.language.specs.Expansion.{limitsOf, lent}
 use Rattle.memory.specs.Block.{placed, block, moved}
 use Rattle.memory.proofs.Blocks.{moved-in, take-placed, drop-placed, placed-length}
 use Rattle.machine.specs.declared.run.Run.{Run}
-use Rattle.machine.specs.Walks.{listOverhead, nowhere, packed, high, low, definitions}
+use Rattle.machine.specs.Walks.{listOverhead, rightBefore, listLink, nowhere, packed, high, low, definitions, returnLink}
 use Rattle.machine.specs.Machine as M
 use Rattle.machine.proofs.Items.{encode-append, width-append, width-cons, count-append, definitions-append, list-size}
 use Rattle.machine.proofs.Stack.{noCall}
@@ -92,7 +92,7 @@ ownIs {n} {older} {whole} {start} {r} {l} {o} {s} h = go (calls n b fs) refl
         let g : r .calls .left ≡ places n b fs .left = ap (λ (p : Places). p .left) (h .placesAre) in
         let before = callBefore n b fs c in
         let q : eqb (r .calls .call) nowhere ≡ false = ne-eqb (r .calls .call) nowhere (λ (z : r .calls .call ≡ nowhere). absurd (omega (arith, callEq, h .ordered, h .shows .stands .right, h .cellsLent))) in
-        let cellEq : getD l (r .calls .call + 1) 0 ≡ getD (lefts n b fs) (places n b fs .call + 1) 0 =
+        let cellEq : listLink l (r .calls .call) ≡ getD (lefts n b fs) (places n b fs .call + 1) 0 =
         sym (getD-take (r .calls .left) l (r .calls .call + 1) 0 (omega (arith, callEq))) ∙ ap (λ (x : List ℕ). getD x (r .calls .call + 1) 0) (h .leftsAre) ∙ ap (λ (x : ℕ). getD (lefts n b fs) (x + 1) 0) callEq in
         let listEq : r .source .list ≡ places n b fs .list = ap (λ (p : Places). p .list) (h .placesAre) in
         rw q (ap (λ (x : ℕ). eqb x (r .source .list)) cellEq ∙ ap (λ (x : ℕ). eqb (getD (lefts n b fs) (places n b fs .call + 1) 0) x) listEq
@@ -282,8 +282,8 @@ module _ {n : ℕ} {older : List Definition} {whole start : List ℕ} {r : Run} 
       }
 
   -- the code comes to that standing
-  endsTo : M.endBodyTo r (getD l (r .source .list) 0) (getD l (r .source .list + 1) 0) (getD l (r .source .list + 2) 0)
-      (definitions l (r .source .list + high (getD l (r .source .list + 1) 0) + 5) (getD l (r .source .list) 0)) (lent l o)
+  endsTo : M.endBodyTo r (rightBefore l (r .source .list)) (listLink l (r .source .list)) (returnLink l (r .source .list))
+      (definitions l (r .source .list + high (listLink l (r .source .list)) + listOverhead) (rightBefore l (r .source .list))) (lent l o)
       ≡ M.goes (M.bodyEnded r to (packed (listPrice (x .list) - listOverhead) (places n b′ (x .under) .list)) (packed (places n b′ (x .under) .body) (places n b′ (x .under) .offset)) (count (x .collected)))
       (lent (placed upTo (encode (x .since)) l) o)
   unfolding Valid argumentsPrice
@@ -292,14 +292,14 @@ module _ {n : ℕ} {older : List Definition} {whole start : List ℕ} {r : Run} 
       let p = places n b′ (x .under) in
       let named : 5 ≤ listPrice (x .list) = listAtLeast (x .list) (validIs .4) in
       let links = packed (listPrice (x .list) - listOverhead) (p .list) in
-      let toEq : getD l (r .source .list) 0 ≡ to = ap (λ (k : ℕ). getD l k 0) listEq ∙ lists .toIs in
-      let linksEq : getD l (r .source .list + 1) 0 ≡ links = ap (λ (k : ℕ). getD l (k + 1) 0) listEq ∙ lists .linksAre in
-      let readerEq : getD l (r .source .list + 2) 0 ≡ packed (p .body) (p .offset) = ap (λ (k : ℕ). getD l (k + 2) 0) listEq ∙ lists .readerIs in
+      let toEq : rightBefore l (r .source .list) ≡ to = ap (λ (k : ℕ). getD l k 0) listEq ∙ lists .toIs in
+      let linksEq : listLink l (r .source .list) ≡ links = ap (λ (k : ℕ). listLink l k) listEq ∙ lists .linksAre in
+      let readerEq : returnLink l (r .source .list) ≡ packed (p .body) (p .offset) = ap (λ (k : ℕ). returnLink l k) listEq ∙ lists .readerIs in
       let highEq : high links ≡ listPrice (x .list) - listOverhead = packed-high (listPrice (x .list) - listOverhead) (p .list) (omega (arith, w .0, w .1, h .cellsLent)) in
-      let fromEq : r .source .list + high links + 5 ≡ A + listPrice (x .list) = omega (arith, listEq, highEq) in
-      let goneEq : definitions l (r .source .list + high (getD l (r .source .list + 1) 0) + 5) (getD l (r .source .list) 0) ≡ count (x .collected) =
-      ap (λ (k : ℕ). definitions l (r .source .list + high k + 5) (getD l (r .source .list) 0)) linksEq
-      ∙ ap (λ (k : ℕ). definitions l (r .source .list + high links + 5) k) toEq
+      let fromEq : r .source .list + high links + listOverhead ≡ A + listPrice (x .list) = omega (arith, listEq, highEq) in
+      let goneEq : definitions l (r .source .list + high (listLink l (r .source .list)) + listOverhead) (rightBefore l (r .source .list)) ≡ count (x .collected) =
+      ap (λ (k : ℕ). definitions l (r .source .list + high k + listOverhead) (rightBefore l (r .source .list))) linksEq
+      ∙ ap (λ (k : ℕ). definitions l (r .source .list + high links + listOverhead) k) toEq
       ∙ ap (λ (k : ℕ). definitions l k to) fromEq
       ∙ goneIs in
       let counts : count (items n b′ (h .frames)) ≡ count (x .since) + (count (x .collected) + count U) = countsIs in

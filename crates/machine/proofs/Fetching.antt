@@ -23,7 +23,7 @@ use Rattle.language.specs.Octets.{Octets}
 use Rattle.memory.specs.Block.{block, lowBytes}
 use Rattle.memory.proofs.Blocks.{block-at, take-lowBytes, drop-lowBytes, lowBytes-of-bytes}
 use Rattle.machine.specs.declared.run.Run.{Run}
-use Rattle.machine.specs.Walks.{nowhere, mark, argument}
+use Rattle.machine.specs.Walks.{nowhere, mark, headSize, nameLength, argument, argumentsFrom, valueLength}
 use Rattle.machine.specs.Machine as M
 use Rattle.machine.proofs.Moves.{Reader, readerOf}
 use Rattle.machine.proofs.Represents.{Simulates}
@@ -78,8 +78,8 @@ module _ {n : ℕ} {older : List Definition} {whole start : List ℕ} {r : Run} 
         let x = readerIs in
         let c = at-cells holdsOf (x .at) in
         let z : length (drop (places n (length older) (h .frames) .offset) (x .value)) ≡ 0 = ap length (sym (x .rest) ∙ q) in
-        let valued : getD l (r .source .body + 3) 0 ≡ length (x .value) = ap (λ (k : ℕ). getD l (k + 3) 0) bodyEq ∙ c .2 .cells .valued in
-        rw (le-leb (getD l (r .source .body + 3) 0) (r .source .offset)
+        let valued : valueLength l (r .source .body) ≡ length (x .value) = ap (λ (k : ℕ). valueLength l k) bodyEq ∙ c .2 .cells .valued in
+        rw (le-leb (valueLength l (r .source .body)) (r .source .offset)
         (omega (arith, offsetEq, valued, length-drop (places n (length older) (h .frames) .offset) (x .value))))
 
     pub bodyNext : (x : ℕ) (rest : Bytes) → B .rest ≡ x ∷ rest → x < 256 → M.bodyByte r l ≡ x
@@ -90,20 +90,20 @@ module _ {n : ℕ} {older : List Definition} {whole start : List ℕ} {r : Run} 
         let tail : drop k (v .value) ≡ x ∷ rest = sym (v .rest) ∙ q in
         let z : length (drop k (v .value)) ≡ suc (length rest) = ap length tail in
         let inside : k < length (v .value) = omega (arith, length-drop k (v .value)) in
-        let valued : getD l (r .source .body + 3) 0 ≡ length (v .value) = ap (λ (j : ℕ). getD l (j + 3) 0) bodyEq ∙ c .2 .cells .valued in
-        let named : getD l (r .source .body + 1) 0 ≡ length (c .0) = ap (λ (j : ℕ). getD l (j + 1) 0) bodyEq ∙ c .2 .cells .named in
+        let valued : valueLength l (r .source .body) ≡ length (v .value) = ap (λ (j : ℕ). valueLength l j) bodyEq ∙ c .2 .cells .valued in
+        let named : nameLength l (r .source .body) ≡ length (c .0) = ap (λ (j : ℕ). nameLength l j) bodyEq ∙ c .2 .cells .named in
         let zero′ : k + 0 ≡ k = omega arith in
-        let byteIs : getD l (r .source .body + 4 + getD l (r .source .body + 1) 0 + r .source .offset) 0 ≡ x =
-        ap (λ (j : ℕ). getD l (r .source .body + 4 + j + r .source .offset) 0) named
-        ∙ ap (λ (j : ℕ). getD l (j + 4 + length (c .0) + r .source .offset) 0) bodyEq
-        ∙ ap (λ (j : ℕ). getD l (places n (length older) (h .frames) .body + 4 + length (c .0) + j) 0) offsetEq
-        ∙ sym (block-at (places n (length older) (h .frames) .body + 4 + length (c .0)) (length (v .value)) l k inside)
+        let byteIs : getD l (r .source .body + headSize + nameLength l (r .source .body) + r .source .offset) 0 ≡ x =
+        ap (λ (j : ℕ). getD l (r .source .body + headSize + j + r .source .offset) 0) named
+        ∙ ap (λ (j : ℕ). getD l (j + headSize + length (c .0) + r .source .offset) 0) bodyEq
+        ∙ ap (λ (j : ℕ). getD l (places n (length older) (h .frames) .body + headSize + length (c .0) + j) 0) offsetEq
+        ∙ sym (block-at (places n (length older) (h .frames) .body + headSize + length (c .0)) (length (v .value)) l k inside)
         ∙ ap (λ (j : List ℕ). getD j k 0) (c .2 .cells .valueIs)
         ∙ ap (λ (j : ℕ). getD (v .value) j 0) (sym zero′)
         ∙ sym (getD-drop k (v .value) 0 0)
         ∙ ap (λ (j : List ℕ). getD j 0 0) tail in
         let whole′ : x % 256 ≡ x = omega arith in
-        rw (lt-leb (getD l (r .source .body + 3) 0) (r .source .offset) (omega (arith, offsetEq, valued)), byteIs) whole′
+        rw (lt-leb (valueLength l (r .source .body)) (r .source .offset) (omega (arith, offsetEq, valued)), byteIs) whole′
 
 -- The parameter that a byte stands for: the code's number is the scanning's.
 pub data Numbered : ℕ → Option ℕ → Type 0 where
@@ -131,32 +131,32 @@ module _ {n : ℕ} {older : List Definition} {whole start : List ℕ} {r : Run} 
 
   -- parameter k of the body being read
   fetchNumberSim : (x : ℕ) (rest : Bytes) → B .rest ≡ x ∷ rest → All Octets (B .list) → (k : ℕ) → k < 10
-      → Simulates n older whole start (M.fetchArgument r (argument l (r .source .list + 3) k) (lent l o))
+      → Simulates n older whole start (M.fetchArgument r (argument l (r .source .list + argumentsFrom) k) (lent l o))
       (S.fetchSupplied (limitsOf n (length start)) (ltb k (length (B .list))) (parameter k (B .list)) (S.withBodies (S.withRest rest B ∷ Bs) s))
   fetchNumberSim x rest q oct k small = go (ltb k (length (B .list))) refl
     where
       more : List ℕ
       more = encode (listed .since ++ items n (length older) (listed .under))
 
-      c : drop (r .source .list + 3) l ≡ encodeArguments (B .list) ++ (mark ∷ more)
+      c : drop (r .source .list + argumentsFrom) l ≡ encodeArguments (B .list) ++ (mark ∷ more)
       c = ap (λ (j : ℕ). drop (j + 3) l) listEq ∙ listed .cells .arguments
 
       priced : argumentsPrice (B .list) ≤ 65536
       priced = omega (arith, listed .within, h .cellsLent)
 
       go : (t : Bool) → ltb k (length (B .list)) ≡ t
-          → Simulates n older whole start (M.fetchArgument r (argument l (r .source .list + 3) k) (lent l o))
+          → Simulates n older whole start (M.fetchArgument r (argument l (r .source .list + argumentsFrom) k) (lent l o))
           (S.fetchSupplied (limitsOf n (length start)) t (parameter k (B .list)) (S.withBodies (S.withRest rest B ∷ Bs) s))
       go true z =
-          let a = argument-at l (r .source .list + 3) (B .list) more k c priced (ltb-true k (length (B .list)) z) in
-          let p = argument l (r .source .list + 3) k in
+          let a = argument-at l (r .source .list + argumentsFrom) (B .list) more k c priced (ltb-true k (length (B .list)) z) in
+          let p = argument l (r .source .list + argumentsFrom) k in
           let bs = parameter k (B .list) in
           let there : p < nowhere = omega (arith, a .within, listed .within, h .cellsLent, listEq) in
           let h′ = advanced h B Bs x rest e q in
           rw (ne-eqb p nowhere (λ (y : p ≡ nowhere). absurd (omega arith)), a .counted)
           (copyBlock free h′ (p + 1) bs (omega (arith, a .within, listed .within, listEq)) (a .bytes) (block-low (p + 1) bs l (a .bytes) (each k (B .list) oct)))
       go false z =
-          let p : argument l (r .source .list + 3) k ≡ nowhere = argument-past l (r .source .list + 3) (B .list) more k c priced (ltb-false k (length (B .list)) z) in
+          let p : argument l (r .source .list + argumentsFrom) k ≡ nowhere = argument-past l (r .source .list + argumentsFrom) (B .list) more k c priced (ltb-false k (length (B .list)) z) in
           rw p (refusal free h Outcomes.notSupplied)
 
   -- `~` in a body

@@ -10,7 +10,7 @@ use lib.Dec.{eqb}
 use borrow.Author.Tests.{le-leb, lt-leb, eq-eqb, ne-eqb, eqb-true, eqb-false}
 use Rattle.language.specs.Expansion.{lent}
 use Rattle.language.specs.Signs.{Bytes}
-use Rattle.language.specs.Definitions.{Definition, found, macro, among}
+use Rattle.language.specs.Definitions.{Macro, Definition, found, macro, among}
 use Rattle.language.specs.Definitions as D
 use Rattle.language.specs.Charge.{argumentsPrice, listPrice}
 use Rattle.language.specs.Scanning.{Body, reading}
@@ -131,16 +131,16 @@ unfolding encode
 definition-at l p f name value spare its rest e =
     let head : List ℕ = f ∷ length name ∷ (length value + length spare) ∷ length value ∷ [] in
     let s : drop p l ≡ head ++ (name ++ (value ++ (spare ++ (encode its ++ rest)))) = e ∙ simp append-assoc in
-    let g : drop (p + 4) l ≡ name ++ (value ++ (spare ++ (encode its ++ rest))) = drop-past l head (name ++ (value ++ (spare ++ (encode its ++ rest)))) p 4 s refl in
-    let w : drop (p + 4 + length name) l ≡ value ++ (spare ++ (encode its ++ rest)) =
-    drop-past l name (value ++ (spare ++ (encode its ++ rest))) (p + 4) (length name) g refl in
+    let g : drop (p + headSize) l ≡ name ++ (value ++ (spare ++ (encode its ++ rest))) = drop-past l head (name ++ (value ++ (spare ++ (encode its ++ rest)))) p headSize s refl in
+    let w : drop (p + headSize + length name) l ≡ value ++ (spare ++ (encode its ++ rest)) =
+    drop-past l name (value ++ (spare ++ (encode its ++ rest))) (p + headSize) (length name) g refl in
     record {
       named = cell-at l (head ++ (name ++ (value ++ (spare ++ (encode its ++ rest))))) p 1 s;
       roomy = cell-at l (head ++ (name ++ (value ++ (spare ++ (encode its ++ rest))))) p 2 s;
       valued = cell-at l (head ++ (name ++ (value ++ (spare ++ (encode its ++ rest))))) p 3 s;
       fits = omega arith;
-      nameIs = block-of l name (value ++ (spare ++ (encode its ++ rest))) (p + 4) g;
-      valueIs = block-of l value (spare ++ (encode its ++ rest)) (p + 4 + length name) w;
+      nameIs = block-of l name (value ++ (spare ++ (encode its ++ rest))) (p + headSize) g;
+      valueIs = block-of l value (spare ++ (encode its ++ rest)) (p + headSize + length name) w;
     }
 
 -- Definitions counted ------------------------------------------------------------------------------------------------
@@ -214,7 +214,7 @@ module _ {n base : ℕ} where
   at-number (there {i = listed to links reader list} a) = at-number a
 
   -- a value is shorter than the items
-  pub at-short : {its : List Item} {d k : ℕ} {v : Bytes} → At n base its d k v → length v + 4 ≤ width its
+  pub at-short : {its : List Item} {d k : ℕ} {v : Bytes} → At n base its d k v → length v + headSize ≤ width its
   at-short (here {f} {name} {value} {spare} {items} p q) =
       omega (arith, width-cons (defined f name value spare) items, definition-size f name value spare)
   at-short (there {i} {items} a) = omega (arith, width-cons i items, at-short a)
@@ -250,7 +250,7 @@ pub record Defines (n base : ℕ) (l : List ℕ) (right : ℕ) (its : List Item)
   pub at : At n base its d k value
   pub cells : DefinitionAt l d name value room
   pub from : right ≤ d
-  pub within : d + 4 + length name + room ≤ n
+  pub within : d + headSize + length name + room ≤ n
   pub below : d < nowhere
 
 -- one that stands among older items
@@ -307,7 +307,7 @@ Named [] = Unit {0}
 Named (b ∷ bs) = (0 < length (b .list)) × Named bs
 
 -- the size of a list that has its name comes back from its links
-size-back : (list : List Bytes) (back : ℕ) → 0 < length list → listPrice list ≤ 65536 → high (packed (listPrice list - listOverhead) back) + 5 ≡ listPrice list
+size-back : (list : List Bytes) (back : ℕ) → 0 < length list → listPrice list ≤ 65536 → high (packed (listPrice list - listOverhead) back) + listOverhead ≡ listPrice list
 unfolding argumentsPrice
 size-back [] back m h = absurd (omega arith)
 size-back (a ∷ list) back m h = omega (arith, packed-high (listPrice (a ∷ list) - listOverhead) back (omega arith))
@@ -319,7 +319,7 @@ data Chain (n base : ℕ) : List Item → ℕ → ℕ → List ℕ → Type 0 wh
   past : {f : ℕ} {name value spare : Bytes} {its : List Item} {list body : ℕ} {ks : List ℕ}
       → Chain n base its list body ks → Chain n base (defined f name value spare ∷ its) list body ks
   linked : {to links reader : ℕ} {args : List Bytes} {its : List Item} {list body at d k : ℕ} {v : Bytes} {ks : List ℕ}
-      → at ≡ address n (listed to links reader args ∷ its) → high links + 5 ≡ listPrice args → low links ≡ list → high reader ≡ body
+      → at ≡ address n (listed to links reader args ∷ its) → high links + listOverhead ≡ listPrice args → low links ≡ list → high reader ≡ body
       → At n base its d k v → Chain n base its list body ks → Chain n base (listed to links reader args ∷ its) at d (k ∷ ks)
 
 module _ (n base : ℕ) (lent : n ≤ 65536) where
@@ -409,8 +409,8 @@ same-turned (x ∷ a) (y ∷ b) = rw (equal-turned x y, same-turned a b)
 -- nothing has the name, or the definition at x is the newest that has it
 pub data Newest (n base : ℕ) (l : List ℕ) (right : ℕ) (its : List Item) (t : Bytes) (x : ℕ) : Type 0 where
   absent : x ≡ nowhere → ((older : List Definition) → D.newest t (definitionsOf its ++ older) ≡ D.newest t older) → Newest n base l right its t x
-  present : {k room : ℕ} {v : Bytes} → Defines n base l right its x k t v room
-      → ((older : List Definition) → length older ≡ base → D.newest t (definitionsOf its ++ older) ≡ found k (macro v room))
+  present : {k : ℕ} {c : Macro} → Defines n base l right its x k t (c .value) (c .room)
+      → ((older : List Definition) → length older ≡ base → D.newest t (definitionsOf its ++ older) ≡ found k (macro c))
       → Newest n base l right its t x
 
 -- older items have what they have behind a list
@@ -418,23 +418,23 @@ newest-listed : {n base : ℕ} {l : List ℕ} {p q : ℕ} {its : List Item} {t :
     → Newest n base l q its t x → Newest n base l p (listed to links reader args ∷ its) t x
 unfolding definitionsOf
 newest-listed h (absent e f) = absent e f
-newest-listed h (present c f) = present (defines-there h c) f
+newest-listed h (present {c = m} c f) = present {c = m} (defines-there h c) f
 
 -- and behind a definition with another name
 newest-other : {n base : ℕ} {l : List ℕ} {p q : ℕ} {its : List Item} {t : Bytes} {x f : ℕ} {name value spare : Bytes} → p ≤ q
     → D.same t name ≡ false → Newest n base l q its t x → Newest n base l p (defined f name value spare ∷ its) t x
 unfolding definitionsOf D.newest
 newest-other h s (absent e f) = absent e (λ older. rw s (f older))
-newest-other h s (present c f) = present (defines-there h c) (λ older b. rw s (f older b))
+newest-other h s (present {c = m} c f) = present {c = m} (defines-there h c) (λ older b. rw s (f older b))
 
 -- a definition with the name is the newest
 newest-here : {n base : ℕ} {l : List ℕ} {p : ℕ} {its : List Item} {t : Bytes} {f : ℕ} {name value spare : Bytes} → D.same t name ≡ true
     → HoldsItems n l p (defined f name value spare ∷ its) → Newest n base l p (defined f name value spare ∷ its) t p
 unfolding definitionsOf D.newest
-newest-here {base = base} {its = its} {t = t} {name = name} s h =
+newest-here {base = base} {its = its} {t = t} {name = name} {value = value} {spare = spare} s h =
     let q : name ≡ t = same-true name t (same-turned name t ∙ s) in
     let c = defines-here {base = base} h in
-    present
+    present {c = record { value = value; room = length value + length spare }}
     (record { at = c .at; cells = rw q at (c .cells); from = c .from; within = rw q at (c .within); below = c .below })
     (λ older b.
     let e : length (definitionsOf its ++ older) ≡ base + count its = omega (arith, length-append (definitionsOf its) older) in
@@ -453,19 +453,19 @@ newest-pick {n} {base} {l} {p} {its = its} t {x} {f} {name} {value} {spare} o h 
 module _ {n : ℕ} {l : List ℕ} (name : ℕ) (t : Bytes) (is : block (name + 1) (length t) l ≡ t) (fits : name + 1 + length t ≤ n) where
   -- the walk's test is that of the names
   named-test : {p f : ℕ} {own value spare : Bytes} {its : List Item} → HoldsItems n l p (defined f own value spare ∷ its)
-      → cond (eqb (getD l (p + 1) 0) (length t)) (sameBlocks (p + 4) (name + 1) (length t) l) false ≡ D.same t own
+      → cond (eqb (nameLength l p) (length t)) (sameBlocks (p + headSize) (name + 1) (length t) l) false ≡ D.same t own
   named-test {p} {f} {own} {value} {spare} {its} h = rw (c .named) (go (eqb (length own) (length t)) refl)
     where
       c : DefinitionAt l p own value (length value + length spare)
       c = definition-at l p f own value spare its [] (held h)
 
-      go : (x : Bool) → eqb (length own) (length t) ≡ x → cond x (sameBlocks (p + 4) (name + 1) (length t) l) false ≡ D.same t own
+      go : (x : Bool) → eqb (length own) (length t) ≡ x → cond x (sameBlocks (p + headSize) (name + 1) (length t) l) false ≡ D.same t own
       go true e =
           let q : length own ≡ length t = eqb-true (length own) (length t) e in
-          let b : block (p + 4) (length t) l ≡ own = rw q at (c .nameIs) in
+          let b : block (p + headSize) (length t) l ≡ own = rw q at (c .nameIs) in
           let w = width-cons (defined f own value spare) its in
           let z = definition-size f own value spare in
-          sameBlocks-in (p + 4) (name + 1) (length t) l (omega (arith, h .ends, h .size)) (omega (arith, h .size)) ∙ rw (b, is) (same-turned own t)
+          sameBlocks-in (p + headSize) (name + 1) (length t) l (omega (arith, h .ends, h .size)) (omega (arith, h .size)) ∙ rw (b, is) (same-turned own t)
       go false e = sym (sym (same-turned own t) ∙ ne-same own t (λ q. eqb-false (length own) (length t) e (ap length q)))
 
   -- the walk finds the newest definition with the name, given turns enough
@@ -492,8 +492,8 @@ module _ {n : ℕ} {l : List ℕ} (name : ℕ) (t : Bytes) (is : block (name + 1
       let y = list-at l p to links reader args its [] (held h) in
       let o = width-cons i its in
       let z = item-size i in
-      let m : p + high (getD l (p + 1) 0) + 5 ≡ p + length (encodeItem i) = omega (arith, ap high (y .linksAre), list-size to links reader args) in
-      let g : low (getD l (p + 1) 0) ≡ _ = ap low (y .linksAre) ∙ e in
+      let m : p + high (listLink l p) + listOverhead ≡ p + length (encodeItem i) = omega (arith, ap high (y .linksAre), list-size to links reader args) in
+      let g : low (listLink l p) ≡ _ = ap low (y .linksAre) ∙ e in
       rw (lt-leb (length l) p (omega arith), eq-eqb p list (omega arith), m, g)
       (newest-listed (omega arith) (newest-in turns c (holds-rest h) (omega arith)))
 
@@ -541,10 +541,10 @@ pub record Listed (n base : ℕ) (l : List ℕ) (right list : ℕ) (b : Body) (b
   pub applied : b .applied ≡ base + count (since ++ items n base under)
   pub from : right ≤ list
   pub within : list + listPrice (b .list) + width (since ++ items n base under) ≡ n
-  pub sizeIs : high (getD l (list + 1) 0) + 5 ≡ listPrice (b .list)
-  pub listIs : low (getD l (list + 1) 0) ≡ places n base under .list
-  pub bodyIs : high (getD l (list + 2) 0) ≡ places n base under .body
-  pub offsetIs : low (getD l (list + 2) 0) ≡ places n base under .offset
+  pub sizeIs : high (listLink l list) + listOverhead ≡ listPrice (b .list)
+  pub listIs : low (listLink l list) ≡ places n base under .list
+  pub bodyIs : high (returnLink l list) ≡ places n base under .body
+  pub offsetIs : low (returnLink l list) ≡ places n base under .offset
 
 -- a list that stands among older items
 listed-there : {n base : ℕ} {l : List ℕ} {p q list : ℕ} {b : Body} {bs : List Body} → p ≤ q → Listed n base l q list b bs → Listed n base l p list b bs

@@ -16,7 +16,7 @@ use Rattle.language.specs.Scanning as S
 use Rattle.language.specs.Expansion.{limitsOf, lent}
 use Rattle.memory.specs.Block.{placed}
 use Rattle.machine.specs.declared.run.Run.{Run}
-use Rattle.machine.specs.Walks.{nowhere, packed, high, low}
+use Rattle.machine.specs.Walks.{nowhere, packed, high, low, returnLink}
 use Rattle.machine.specs.Machine as M
 use Rattle.machine.proofs.Stack.{noCall}
 use Rattle.machine.proofs.Moves.{Collects, putHand}
@@ -87,9 +87,9 @@ module _ {n : ℕ} {older : List Definition} {whole start : List ℕ} {r : Run} 
 
   someAround : Collects n b (a .under) → M.isOuter r l ≡ false
   someAround c =
-      let e : low (getD l (r .calls .call + 2) 0) ≡ p .call = ap low (linksIs a) ∙ outerCall a in
+      let e : low (returnLink l (r .calls .call)) ≡ p .call = ap low (linksIs a) ∙ outerCall a in
       let k : p .call < nowhere = omega (arith, callBefore n b (a .under) c, a .callIs, a .leftIs, a .room, a .shows .stands .right, a .cellsLent) in
-      ne-eqb (low (getD l (r .calls .call + 2) 0)) nowhere (λ (z : low (getD l (r .calls .call + 2) 0) ≡ nowhere). absurd (omega arith))
+      ne-eqb (low (returnLink l (r .calls .call))) nowhere (λ (z : low (returnLink l (r .calls .call)) ≡ nowhere). absurd (omega arith))
 
   -- the standing with the list gone and so much collected
   abbrev placedAt : ℕ → ℕ → ℕ → Run

@@ -94,7 +94,7 @@ first-is {l} {p} {t} h (d ∷ ds) =
 
 -- a content that is not counted is a built-in
 content-own : (k : ℕ) (c : Content) → counts c ≡ 0 → Own (found k c)
-content-own k (macro v room) e = absurd (omega arith)
+content-own k (macro x) e = absurd (omega arith)
 content-own k (builtIn b) e = known k b
 
 -- among definitions that are not counted only a built-in is found

@@ -12,7 +12,7 @@ use borrow.Author.Tests.{lt-ltb, le-ltb, eq-eqb, ne-eqb}
 use Rattle.language.specs.Outcomes
 use Rattle.language.specs.Signs.{Bytes}
 use Rattle.language.specs.Definitions.{Definition}
-use Rattle.language.specs.Charge.{argumentsPrice, definitionsPrice}
+use Rattle.language.specs.Charge.{argumentsPrice, openPrice, definitionsPrice}
 use Rattle.language.specs.Scanning.{State, Step, next, Call, Body, callsBelow}
 use Rattle.language.specs.Scanning as S
 use Rattle.language.specs.Expansion.{limitsOf, lent}
@@ -151,10 +151,10 @@ module _ {n : ℕ} {older : List Definition} {whole start : List ℕ} {r : Run} 
   stands = ap length (h .shows .stands .definitions) ∙ omega (arith, length-append (definitionsOf (items n b fs)) older)
 
   -- `$`
-  opened : r .charge + 4 ≤ n
+  opened : r .charge + openPrice ≤ n
       → Represents n older whole start (M.opened r)
       (lent (M.openAt r (r .calls .left) l) o)
-      (S.withCalls (S.newCall (S.noting (S.charge s + 4) s) ∷ s .calls) (S.noting (S.charge s + 4) s))
+      (S.withCalls (S.newCall (S.noting (S.charge s + openPrice) s) ∷ s .calls) (S.noting (S.charge s + openPrice) s))
   unfolding laid calls lefts bodies Valid argumentsPrice encodeArguments
   opened e =
       let fit = roomIs free h 4 e in
@@ -165,7 +165,7 @@ module _ {n : ℕ} {older : List Definition} {whole start : List ℕ} {r : Run} 
       let cells : M.openAt r (r .calls .left) l ≡ placed (r .calls .left) bs l =
       rw (cell-is (r .right) (omega (arith, h .shows .stands .right, h .cellsLent)), cell-is (r .source .list) small)
       (threeSet l (r .calls .left) (r .right) (r .source .list) (packed (r .calls .hand) (r .calls .call)) (omega (arith, h .shows .stands .right, h .shows .stands .size))) in
-      subst (λ (x : List ℕ). Represents n older whole start (M.opened r) (lent x o) (S.withCalls (S.newCall (S.noting (S.charge s + 4) s) ∷ s .calls) (S.noting (S.charge s + 4) s)))
+      subst (λ (x : List ℕ). Represents n older whole start (M.opened r) (lent x o) (S.withCalls (S.newCall (S.noting (S.charge s + openPrice) s) ∷ s .calls) (S.noting (S.charge s + openPrice) s)))
       (sym cells)
       (record {
         frames = collects [] [] w ∷ fs;
@@ -186,7 +186,7 @@ module _ {n : ℕ} {older : List Definition} {whole start : List ℕ} {r : Run} 
         cellsLent = h .cellsLent;
         ordered = fit;
         carried = omega (arith, h .carried);
-        placesAre = ap (λ (x : ℕ). record { left = r .calls .left + 4; call = r .calls .left; hand = x; list = r .source .list; body = r .source .body; offset = r .source .offset }) zero′ ∙ ap (λ (p : Places). opening p [] []) (h .placesAre);
+        placesAre = ap (λ (x : ℕ). record { left = r .calls .left + openPrice; call = r .calls .left; hand = x; list = r .source .list; body = r .source .body; offset = r .source .offset }) zero′ ∙ ap (λ (p : Places). opening p [] []) (h .placesAre);
         leftsAre = placedLow free h bs fit ∙ ap (λ (x : List ℕ). x ++ bs) (h .leftsAre)
             ∙ ap (λ (p : Places). lefts n b fs ++ (r .right ∷ p .list ∷ packed (p .hand) (p .call) ∷ w ∷ [])) (h .placesAre)
             ∙ ap (λ (x : ℕ). lefts n b fs ++ (x ∷ places n b fs .list ∷ packed (places n b fs .hand) (places n b fs .call) ∷ w ∷ [])) rightIs;

@@ -19,7 +19,7 @@ use Rattle.language.specs.declared.built_ins.BuiltIn.the-variants.{Def, Val, Up
 use Rattle.language.specs.Definitions.{macro, builtIn, Definition, Found, found, missing, altered, oldest, among}
 use Rattle.language.specs.Definitions as D
 use Rattle.language.specs.BuiltIns.{builtIns, Deed, reads, alters, faulty, deed, deedOf, performed, valueOf, updateOf, resultOf, parameter, needs}
-use Rattle.language.specs.Charge.{argumentsPrice}
+use Rattle.language.specs.Charge.{argumentsPrice, openPrice}
 use Rattle.language.specs.Matched.{All, empty, with}
 use Rattle.language.specs.Scanning.{State, next, Call, Body}
 use Rattle.language.specs.Scanning as S
@@ -29,7 +29,7 @@ use Rattle.language.proofs.Demand.{builtIns-free}
 use Rattle.memory.specs.Block.{placed, moved, copied, lowBytes}
 use Rattle.memory.proofs.Blocks.{moved-in, copied-in, length-lowBytes}
 use Rattle.machine.specs.declared.run.Run.{Run}
-use Rattle.machine.specs.Walks.{nowhere, argument, newest, isRead, calculate}
+use Rattle.machine.specs.Walks.{nowhere, headSize, nameLength, argument, newest, isRead, calculate, room, withValueLength}
 use Rattle.machine.specs.Machine as M
 use Rattle.machine.proofs.Items.{encode-append, width-append}
 use Rattle.machine.proofs.Moves.{madeAll, madeLaid, madeBodies, madeValid}
@@ -46,13 +46,13 @@ use Rattle.machine.specs.Items.{Item, defined, width, encode, definition
 use Rattle.machine.specs.Frames.{Places, Frame, address, At, items, places, calls, bodies, Valid}
 
 -- a value that is found is of bytes
-valueOctets : (t : Bytes) (ds : List Definition) (k room : ℕ) (v : Bytes) → All DefinitionOctets ds → D.newest t ds ≡ found k (macro v room) → Octets v
+valueOctets : (t : Bytes) (ds : List Definition) (k : ℕ) (m : D.Macro) → All DefinitionOctets ds → D.newest t ds ≡ found k (macro m) → Octets (m .value)
 unfolding D.newest
-valueOctets t [] k room v h e = let z : _≡_ {A = ℕ} 0 1 = cc in absurd (omega arith)
-valueOctets t (d ∷ ds) k room v (with x h) e = go (D.same t (d .name)) e (λ q. valueOctets t ds k room v h q)
+valueOctets t [] k m h e = let z : _≡_ {A = ℕ} 0 1 = cc in absurd (omega arith)
+valueOctets t (d ∷ ds) k m (with x h) e = go (D.same t (d .name)) e (λ q. valueOctets t ds k m h q)
   where
-    go : (y : Bool) → cond y (found (length ds) (d .content)) (D.newest t ds) ≡ found k (macro v room) → (D.newest t ds ≡ found k (macro v room) → Octets v) → Octets v
-    go true e ih = let q : d .content ≡ macro v room = cc in subst ContentOctets q (x .content)
+    go : (y : Bool) → cond y (found (length ds) (d .content)) (D.newest t ds) ≡ found k (macro m) → (D.newest t ds ≡ found k (macro m) → Octets (m .value)) → Octets (m .value)
+    go true e ih = let q : d .content ≡ macro m = cc in subst ContentOctets q (x .content)
     go false e ih = ih e
 
 -- a list with a name takes a cell at least
@@ -161,7 +161,7 @@ module _ {n : ℕ} {whole start : List ℕ} {r : Run} {l o : List ℕ} {s : Stat
   readSim : (d k room : ℕ) (v : Bytes) → Defines n b l (r .right) its d k (parameter 0 list) v room
       → Simulates n builtIns whole start (M.readBody r d (lent l o)) (S.perform (limitsOf n (length start)) (reads k v) c cs s)
   readSim d k room v D =
-      let left : ltb (r .calls .left) (r .calls .call + 4) ≡ false = le-ltb (r .calls .left) (r .calls .call + 4) (omega (arith, a .leftIs, oneCost list named)) in
+      let left : ltb (r .calls .left) (r .calls .call + openPrice) ≡ false = le-ltb (r .calls .left) (r .calls .call + openPrice) (omega (arith, a .leftIs, oneCost list named)) in
       let fits : ltb (r .right) (r .calls .left - r .calls .call + 1) ≡ false = le-ltb (r .right) (r .calls .left - r .calls .call + 1) (omega (arith, a .leftIs, a .room)) in
       rw (left, fits, linksIs a, movedIs a d k v (D .at)) (goes refl (begun a d k v (D .at) named))
 
@@ -192,10 +192,11 @@ module _ {n : ℕ} {whole start : List ℕ} {r : Run} {l o : List ℕ} {s : Stat
       go d (absent e f) =
           let g : D.newest t (s .standing .definitions) ≡ D.newest t builtIns = ap (D.newest t) definitionsAre ∙ f builtIns in
           rw (e, g) (refuseSim q t x (D.newest t builtIns) (builtIns-only t) refl valueOf refl (λ k bi. refl))
-      go d (present {k} {room} {v} at f) =
-          let g : D.newest t (s .standing .definitions) ≡ found k (macro v room) = ap (D.newest t) definitionsAre ∙ f builtIns refl in
-          let from = d + 4 + length t in
-          let vo : Octets v = valueOctets t (s .standing .definitions) k room v (oct .definitions) g in
+      go d (present {k} {c = m} at f) =
+          let g : D.newest t (s .standing .definitions) ≡ found k (macro m) = ap (D.newest t) definitionsAre ∙ f builtIns refl in
+          let v = m .value in
+          let from = d + headSize + length t in
+          let vo : Octets v = valueOctets t (s .standing .definitions) k m (oct .definitions) g in
           let fit : from + length v ≤ n = omega (arith, at .within, at .cells .fits) in
           rw (ne-eqb d nowhere (λ (e : d ≡ nowhere). absurd (omega (arith, at .below))), g, at .cells .named, at .cells .valued)
           (giveSim builtIns-free a v (moved from (r .calls .call) (length v) l) (copied from (r .counts .written) (length v) (lowBytes l) o)
@@ -225,7 +226,7 @@ module _ {n : ℕ} {whole start : List ℕ} {r : Run} {l o : List ℕ} {s : Stat
       (record {
         run = (M.release r 0 (lent l o)) .run;
         answer = (M.release r 0 (lent l o)) .answer;
-        lent = lent (set (moved (y + 1) (d + 4 + getD l (d + 1) 0) (getD l y 0) l) (d + 3) (getD l y 0)) o;
+        lent = lent (withValueLength (moved (y + 1) (d + headSize + nameLength l d) (getD l y 0) l) d (getD l y 0)) o;
       })
       (next (S.withCalls cs (S.withDefinitions (oldest (b + count U) (altered k w (s .standing .definitions))) s)))
   storeSim d k room t w v y at x fits quiet =
@@ -234,12 +235,12 @@ module _ {n : ℕ} {whole start : List ℕ} {r : Run} {l o : List ℕ} {s : Stat
       let roomEq : room ≡ length v + length (spot .spare) = sym (at .cells .roomy) ∙ own .roomy in
       let fit : length w ≤ length v + length (spot .spare) = omega arith in
       let nameEq : length (spot .name) ≡ length t = sym (own .named) ∙ at .cells .named in
-      let target = d + 4 + length (spot .name) in
+      let target = d + headSize + length (spot .name) in
       let l′ = stored d (spot .name) w l in
-      let cellsEq : set (moved (y + 1) (d + 4 + getD l (d + 1) 0) (getD l y 0) l) (d + 3) (getD l y 0) ≡ l′ =
-      ap (λ (j : ℕ). set (moved (y + 1) (d + 4 + getD l (d + 1) 0) j l) (d + 3) j) (x .counted)
-      ∙ ap (λ (j : ℕ). set (moved (y + 1) (d + 4 + j) (length w) l) (d + 3) (length w)) (at .cells .named ∙ sym nameEq)
-      ∙ ap (λ (j : List ℕ). set j (d + 3) (length w))
+      let cellsEq : withValueLength (moved (y + 1) (d + headSize + nameLength l d) (getD l y 0) l) d (getD l y 0) ≡ l′ =
+      ap (λ (j : ℕ). withValueLength (moved (y + 1) (d + headSize + nameLength l d) j l) d j) (x .counted)
+      ∙ ap (λ (j : ℕ). withValueLength (moved (y + 1) (d + headSize + j) (length w) l) d (length w)) (at .cells .named ∙ sym nameEq)
+      ∙ ap (λ (j : List ℕ). withValueLength j d (length w))
       (moved-in (y + 1) target (length w) l (x .within) (omega (arith, at .within, a .shows .stands .size)) ∙ ap (λ (j : List ℕ). placed target j l) (x .bytes)) in
       let fs′ = alter n b k w (a .under) in
       let A = alterItems k w (b + count U) (a .since) in
@@ -308,25 +309,25 @@ module _ {n : ℕ} {whole start : List ℕ} {r : Run} {l o : List ℕ} {s : Stat
       go d (absent e f) =
           let g : D.newest t (s .standing .definitions) ≡ D.newest t builtIns = ap (D.newest t) definitionsAre ∙ f builtIns in
           rw (e, g) (refuseSim q t x (D.newest t builtIns) (builtIns-only t) refl (updateOf busy w) refl (λ k bi. refl))
-      go d (present {k} {room} {v} at f) =
-          let g : D.newest t (s .standing .definitions) ≡ found k (macro v room) = ap (D.newest t) definitionsAre ∙ f builtIns refl in
-          rw (ne-eqb d nowhere (λ (e : d ≡ nowhere). absurd (omega (arith, at .below))), g, readEq d k v (at .at)) (quiet (among k busy) refl)
+      go d (present {k} {c = m} at f) =
+          let g : D.newest t (s .standing .definitions) ≡ found k (macro m) = ap (D.newest t) definitionsAre ∙ f builtIns refl in
+          rw (ne-eqb d nowhere (λ (e : d ≡ nowhere). absurd (omega (arith, at .below))), g, readEq d k (m .value) (at .at)) (quiet (among k busy) refl)
         where
-          fits : (z : Bool) → ltb room (length w) ≡ z → among k busy ≡ false
+          fits : (z : Bool) → ltb (m .room) (length w) ≡ z → among k busy ≡ false
               → Simulates n builtIns whole start (M.updateIn r (argument l name 2) d (lent l o))
               (S.perform (limitsOf n (length start)) (cond z (faulty Outcomes.updateTooLong) (alters k w)) c cs s)
           fits true e h =
-              let test : ltb (getD l (d + 2) 0) (getD l (argument l name 2) 0) ≡ true = ap (λ (j : ℕ). ltb j (getD l (argument l name 2) 0)) (at .cells .roomy) ∙ ap (ltb room) (y .counted) ∙ e in
+              let test : ltb (room l d) (getD l (argument l name 2) 0) ≡ true = ap (λ (j : ℕ). ltb j (getD l (argument l name 2) 0)) (at .cells .roomy) ∙ ap (ltb (m .room)) (y .counted) ∙ e in
               rw test (refusing builtIns-free a Outcomes.updateTooLong)
           fits false e h =
-              let test : ltb (getD l (d + 2) 0) (getD l (argument l name 2) 0) ≡ false = ap (λ (j : ℕ). ltb j (getD l (argument l name 2) 0)) (at .cells .roomy) ∙ ap (ltb room) (y .counted) ∙ e in
-              rw test (storeSim d k room t w v (argument l name 2) at y (ltb-false room (length w) e) h)
+              let test : ltb (room l d) (getD l (argument l name 2) 0) ≡ false = ap (λ (j : ℕ). ltb j (getD l (argument l name 2) 0)) (at .cells .roomy) ∙ ap (ltb (m .room)) (y .counted) ∙ e in
+              rw test (storeSim d k (m .room) t w (m .value) (argument l name 2) at y (ltb-false (m .room) (length w) e) h)
 
           quiet : (z : Bool) → among k busy ≡ z
               → Simulates n builtIns whole start (cond z (M.ends Outcomes.bodyBeingRead r (lent l o)) (M.updateIn r (argument l name 2) d (lent l o)))
-              (S.perform (limitsOf n (length start)) (cond z (faulty Outcomes.bodyBeingRead) (cond (ltb room (length w)) (faulty Outcomes.updateTooLong) (alters k w))) c cs s)
+              (S.perform (limitsOf n (length start)) (cond z (faulty Outcomes.bodyBeingRead) (cond (ltb (m .room) (length w)) (faulty Outcomes.updateTooLong) (alters k w))) c cs s)
           quiet true e = refusing builtIns-free a Outcomes.bodyBeingRead
-          quiet false e = fits (ltb room (length w)) refl e
+          quiet false e = fits (ltb (m .room) (length w)) refl e
 
   -- Arithmetic -------------------------------------------------------------------------------------------------------
 
@@ -391,6 +392,6 @@ module _ {n : ℕ} {whole start : List ℕ} {r : Run} {l o : List ℕ} {s : Stat
       go d (absent e f) =
           let g : D.newest t (s .standing .definitions) ≡ D.newest t builtIns = ap (D.newest t) definitionsAre ∙ f builtIns in
           rw (e, g) (ownSim (D.newest t builtIns) (builtIns-only t) refl)
-      go d (present {k} {room} {v} at f) =
-          let g : D.newest t (s .standing .definitions) ≡ found k (macro v room) = ap (D.newest t) definitionsAre ∙ f builtIns refl in
-          rw (ne-eqb d nowhere (λ (e : d ≡ nowhere). absurd (omega (arith, at .below))), g) (readSim d k room v at)
+      go d (present {k} {c = m} at f) =
+          let g : D.newest t (s .standing .definitions) ≡ found k (macro m) = ap (D.newest t) definitionsAre ∙ f builtIns refl in
+          rw (ne-eqb d nowhere (λ (e : d ≡ nowhere). absurd (omega (arith, at .below))), g) (readSim d k (m .room) (m .value) at)

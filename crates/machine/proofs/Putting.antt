@@ -11,7 +11,7 @@ use borrow.Author.Tests.{lt-ltb, le-ltb, le-leb, lt-leb, eq-eqb, ne-eqb, leb-tru
 use Rattle.language.specs.Outcomes
 use Rattle.language.specs.Signs.{Bytes}
 use Rattle.language.specs.Definitions.{Definition}
-use Rattle.language.specs.Charge.{definitionsPrice}
+use Rattle.language.specs.Charge.{openPrice, definitionsPrice}
 use Rattle.language.specs.Scanning.{State, Step, next, Call, Limits}
 use Rattle.language.specs.Scanning as S
 use Rattle.language.specs.Expansion.{limitsOf, lent}
@@ -195,7 +195,7 @@ module _ {n : ℕ} {older : List Definition} {whole start : List ℕ} {r : Run} 
       rw e (pick (leb (w + 1) (length start)) (λ q. go (leb-true (w + 1) (length start) q)) (refusal Outcomes.noOutputLeft))
 
 -- the innermost call has a head of four cells
-pub callBefore : (n b : ℕ) (fs : List Frame) → Collects n b fs → places n b fs .call + 4 ≤ places n b fs .left
+pub callBefore : (n b : ℕ) (fs : List Frame) → Collects n b fs → places n b fs .call + openPrice ≤ places n b fs .left
 unfolding laid calls
 callBefore n b [] h = absurd (omega arith)
 callBefore n b (made f name value spare ∷ fs) h = callBefore n b fs h

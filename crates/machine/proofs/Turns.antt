@@ -8,7 +8,7 @@ use lib.ListN.{length, getD}
 use lib.Dec.{eqb, leb}
 use Rattle.decimal.specs.declared.reader.Reader.{Reader}
 use Rattle.decimal.specs.Answers.{after}
-use Rattle.machine.specs.Walks.{nowhere, mark, argument, size, isNamed, nextPosition, nextList, newestFrom, definitionsFrom, high, low, isReadFrom, readBytes}
+use Rattle.machine.specs.Walks.{nowhere, mark, argument, size, isNamed, nextPosition, nextList, newestFrom, definitionsFrom, high, low, isReadFrom, readBytes, listLink, returnLink}
 
 -- the value of a test that a call answered
 pub told : {r b v : Bool} → r ≡ b → r ≡ v → b ≡ v
@@ -57,7 +57,7 @@ module _ (l : List ℕ) where
       (t list body definition : ℕ) → 0 < t
       → isReadFrom t l list body definition
       ≡ cond (eqb list nowhere) false
-      (cond (eqb body definition) true (isReadFrom (t - 1) l (low (getD l (list + 1) 0)) (high (getD l (list + 2) 0)) definition))
+      (cond (eqb body definition) true (isReadFrom (t - 1) l (low (listLink l list)) (high (returnLink l list)) definition))
   unfolding isReadFrom
   isRead-turn zero list body definition h = absurd (omega arith)
   isRead-turn (suc t) list body definition h = rw (less t)

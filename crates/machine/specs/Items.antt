@@ -27,10 +27,14 @@ encode (i ∷ items) = encodeItem i ++ encode items
 abbrev pub width : List Item → ℕ
 width items = length (encode items)
 
+-- what the language has of a definition in cells
+abbrev pub definitionOf : Bytes → Bytes → Bytes → Definition
+definitionOf name value spare = record { name = name; content = macro (record { value = value; room = length value + length spare }) }
+
 -- the definitions among the items
 unfoldable pub definitionsOf : List Item → List Definition
 definitionsOf [] = []
-definitionsOf (defined free name value spare ∷ items) = record { name = name; content = macro value (length value + length spare) } ∷ definitionsOf items
+definitionsOf (defined free name value spare ∷ items) = definitionOf name value spare ∷ definitionsOf items
 definitionsOf (listed to links reader arguments ∷ items) = definitionsOf items
 
 abbrev pub count : List Item → ℕ

@@ -139,7 +139,7 @@ isRead l list body definition = isReadFrom (length l) l list body definition
 
 abbrev pub namedAs : Content → Named
 namedAs (builtIn b) = Known b
-namedAs (macro v room) = Unknown
+namedAs (macro x) = Unknown
 
 -- the first of the definitions, built-ins all, that has the name at a length cell
 unfoldable pub namedAmong : List ℕ → ℕ → List Definition → Named

@@ -21,7 +21,10 @@ charged-requires : tie.Need-charged-requires
 charged-requires c κs = search needs
 
 apply-marked-requires : tie.Need-apply-marked-requires
-apply-marked-requires c κs = rw (c .before .before .charged .ensures) (omega arith)
+apply-marked-requires c κs =
+    let b = c .before .before .before .before .before in
+    let pre = b .before .before .before .before .before .before .before .before .before .before .pre in
+    rw (c .before .before .charged .ensures) (omega (arith, pre .0, pre .1))
 
 same-length : tie.Need-same-length
 same-length c = search needs
