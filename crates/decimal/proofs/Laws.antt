@@ -148,17 +148,17 @@ no-number n z e = let q : _≡_ {A = ℕ} 0 1 = cc in omega arith
 -- a number that is ranged is in range
 ranged-in : (t : Bool) (x z : ℤ) → inRange x ≡ t → cond t (number x) (refused 24) ≡ number z → T (inRange z)
 ranged-in true x z h e = let q : x ≡ z = cc in rw (← q) (holds h)
-ranged-in false x z h e = absurd (no-number 24 z e)
+ranged-in false x z h e = absurd (no-number _ z e)
 
 -- and so is a result of two numbers
 numbers-in : (zero : Bool) (x z : ℤ) → cond zero (refused 23) (ranged x) ≡ number z → T (inRange z)
-numbers-in true x z e = absurd (no-number 23 z e)
+numbers-in true x z e = absurd (no-number _ z e)
 numbers-in false x z e = ranged-in (inRange x) x z refl e
 
 -- and of two operands
 operands-in : (op : Operation) (a b : Option ℤ) (z : ℤ) → ofOperands op a b ≡ number z → T (inRange z)
-operands-in op none b z e = absurd (no-number 22 z e)
-operands-in op (some a) none z e = absurd (no-number 22 z e)
+operands-in op none b z e = absurd (no-number _ z e)
+operands-in op (some a) none z e = absurd (no-number _ z e)
 operands-in op (some a) (some b) z e = numbers-in (divides op && isZero b) (exact op a b) z e
 
 -- every result is in range

@@ -1,37 +1,43 @@
--- Reading byte by byte is the definition: what a new reader has found after all the bytes of a text is the operand that the text is.
-use Prim.Native.Nat.{ℕ, _+_, _-_, _*_, _≤_, _<_, min}
-use mathlib.Core.Path.{_≡_, refl, sym, _∙_}
+-- Reading byte by byte is the definition: what a reader has found is the operand that the bytes which it has taken are.
+use Prim.Native.Nat.{ℕ, _+_, _-_, _*_, _≤_, min}
+use mathlib.Core.Path.{_≡_, refl, sym, ap, _∙_}
 use mathlib.Core.Bool.{Bool, true, false, cond}
 use mathlib.Core.List.{List, [], _∷_, _++_}
 use mathlib.Core.Option.{Option, none, some}
 use native.Mathlib.Omega.{arith}
 use native.Mathlib.Nat.{min-eq-left}
-use native.Mathlib.Numerals.{add-one}
 use native.Mathlib.Decide.{decLe}
 use lib.Dec.{eqb}
 use lib.IntN.{ℤ, pos, negℤ}
-use lib.ListN.{length, take, getD}
-use lib.Seq.{take-suc}
 use Rattle.decimal.proofs.Ranges.{out-of-range, mag-negated}
-use Rattle.decimal.specs.declared.reader.Stage.the-variants.{Digits}
+use Rattle.decimal.specs.declared.reader.Stage.{Stage}
+use Rattle.decimal.specs.declared.reader.Stage.the-variants.{Start, Signed, Digits, Refused}
 use Rattle.decimal.specs.declared.reader.Reader.{Reader}
 use Rattle.decimal.specs.Operand.{isDigit, digitsFrom, oneOrMore, positive, negative, ranged, operand}
-use Rattle.decimal.specs.Answers.{beyond, newReader, refusing, afterDigit, afterSign, after, afterAll, signed, found}
+use Rattle.decimal.specs.Arithmetic.{Result, asResult}
+use Rattle.decimal.specs.Reading.{beyond, newReader, refusing, afterDigit, afterSign, after, afterAll, Took, signed}
+
+-- what a reader has found, by its stage
+abbrev foundAt : Stage → Reader → Option ℤ
+foundAt Start r = none
+foundAt Signed r = none
+foundAt Digits r = ranged (some (signed (r .negative) (r .size)))
+foundAt Refused r = none
+
+-- what it has found, if its bytes end here
+abbrev pub found : Reader → Option ℤ
+found r = foundAt (r .stage) r
 
 -- reading a text and then another is reading the two as one
-pub afterAll-append : (r : Reader) (s t : List ℕ) → afterAll r (s ++ t) ≡ afterAll (afterAll r s) t
+afterAll-append : (r : Reader) (s t : List ℕ) → afterAll r (s ++ t) ≡ afterAll (afterAll r s) t
 unfolding afterAll
 afterAll-append r [] t = refl
 afterAll-append r (b ∷ s) t = afterAll-append (after r b) s t
 
 -- one byte more
-pub afterAll-more : (r : Reader) (s : List ℕ) (b : ℕ) → afterAll r (s ++ (b ∷ [])) ≡ after (afterAll r s) b
+afterAll-more : (r : Reader) (s : List ℕ) (b : ℕ) → afterAll r (s ++ (b ∷ [])) ≡ after (afterAll r s) b
 unfolding afterAll
 afterAll-more r s b = afterAll-append r s (b ∷ [])
-
--- one byte more of a text that is read from its start: a turn of the loop
-pub afterAll-next : (r : Reader) (t : List ℕ) (at : ℕ) → at < length t → after (afterAll r (take at t)) (getD t at 0) ≡ afterAll r (take (at + 1) t)
-afterAll-next r t at h = rw (add-one, take-suc t at 0, afterAll-more)
 
 -- a reader that has refused stays so
 refused-stays : (r : Reader) (t : List ℕ) → found (afterAll (refusing r) t) ≡ none
@@ -108,7 +114,22 @@ first-byte false true b t = after-sign true t
 first-byte false false b t = first-digit false b t
 
 -- what a new reader finds in a text is the operand that the text is
-pub reading : (t : List ℕ) → found (afterAll newReader t) ≡ operand t
+reading : (t : List ℕ) → found (afterAll newReader t) ≡ operand t
 unfolding afterAll operand
 reading [] = refl
 reading (b ∷ t) = first-byte (eqb b 43) (eqb b 45) b t
+
+-- a new reader has taken nothing
+pub took-none : Took [] newReader
+unfolding Took afterAll
+took-none = refl
+
+-- the reader after one byte more has taken it too
+pub took-more : (r : Reader) (b : ℕ) {after-it : Reader} → after-it ≡ after r b → (bytes : List ℕ) → Took bytes r → Took (bytes ++ (b ∷ [])) after-it
+unfolding Took
+took-more r b e bytes h = e ∙ ap (λ (x : Reader). after x b) h ∙ sym (afterAll-more newReader bytes b)
+
+-- what a reader has found is the operand that its bytes are
+pub took-found : (r : Reader) {x : Result} → x ≡ asResult (found r) → (bytes : List ℕ) → Took bytes r → x ≡ asResult (operand bytes)
+unfolding Took
+took-found r e bytes h = e ∙ ap (λ (y : Reader). asResult (found y)) h ∙ ap asResult (reading bytes)

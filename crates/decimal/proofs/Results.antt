@@ -1,9 +1,7 @@
 -- What each branch of the operations answers is the definition's result.
-use Prim.Native.Nat.{ℕ, zero, suc}
+use Prim.Native.Nat.{zero, suc}
 use mathlib.Core.Path.{_≡_, refl, sym, ap, _∙_}
 use mathlib.Core.Bool.{true, false, not}
-use mathlib.Core.List.{List}
-use mathlib.Core.Option.{Option, none, some}
 use lib.Dec.{T, eqb·suc-zero}
 use lib.IntN.{ℤ, pos, negsuc, negℤ, _-ℤ_}
 use lib.Signed.{ltZ}
@@ -14,10 +12,8 @@ use Rattle.decimal.proofs.Ranges.{true-of, in-range, below-range, above
 use Rattle.decimal.proofs.Machine.{read-bits, negation-fits, negated-is, wide, wide-exact, divided-fits, divided-exact, quotient-minus-one, remainder-minus-one}
 use Rattle.decimal.specs.declared.operations.Operation.{Operation}
 use Rattle.decimal.specs.declared.operations.Operation.the-variants.{Sum, Difference, Product, Quotient, Remainder}
-use Rattle.decimal.specs.declared.reader.Operand.{Operand}
-use Rattle.decimal.specs.Operand.{operand, inRange}
-use Rattle.decimal.specs.Arithmetic.{number, refused, exact, divides, isZero, ranged, ofNumbers, ofOperands, calculated}
-use Rattle.decimal.specs.Answers.{operandOf, numberOf}
+use Rattle.decimal.specs.Operand.{inRange}
+use Rattle.decimal.specs.Arithmetic.{number, refused, exact, divides, isZero, ranged, ofNumbers}
 
 -- a number in range is its own result
 in-is-number : (z : ℤ) → inRange z ≡ true → number z ≡ ranged z
@@ -94,13 +90,3 @@ pub divided-number : (op : Operation) {a b : ℤ} → T (divides op) → SFits w
     → number (toZ w32 (ofZ w32 (exact op (toZ w32 (ofZ w32 a)) (toZ w32 (ofZ w32 b))))) ≡ ofNumbers op a b
 divided-number op {a} {b} h f g n m =
     ap number (divided-exact op a b h f g m) ∙ in-is-number (exact op a b) (in-range (exact op a b) (divided-fits op a b h f m .sfits)) ∙ rw (true-of (divides op) h, not-zero b n)
-
--- an operand that was read is the number that its text is
-number-operand : (o : Option ℤ) → numberOf (operandOf o) ≡ o
-number-operand none = refl
-number-operand (some z) = refl
-
--- so an operation on two that were read is the operation on the texts
-pub of-read : (op : Operation) {l r : Operand} (first second : List ℕ) → l ≡ operandOf (operand first) → r ≡ operandOf (operand second)
-    → ofOperands op (numberOf l) (numberOf r) ≡ calculated op first second
-of-read op first second e f = rw (e, f, number-operand (operand first), number-operand (operand second))

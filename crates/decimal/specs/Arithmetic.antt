@@ -4,7 +4,7 @@ use mathlib.Core.Bool.{Bool, true, false, cond, _&&_}
 use mathlib.Core.List.{List}
 use mathlib.Core.Option.{Option, none, some}
 use lib.Dec.{eqb}
-use lib.IntN.{ℤ, pos, negsuc, natAbs, _+ℤ_, _-ℤ_, _*ℤ_}
+use lib.IntN.{ℤ, natAbs, _+ℤ_, _-ℤ_, _*ℤ_}
 use lib.Signed.{quotZ, remZ}
 use Rattle.decimal.specs.declared.operations.Operation.{Operation}
 use Rattle.decimal.specs.declared.operations.Operation.the-variants.{Sum, Difference, Product, Quotient, Remainder}
@@ -59,11 +59,20 @@ ranged z = cond (inRange z) (number z) (refused resultOutOfRange)
 abbrev pub ofNumbers : Operation → ℤ → ℤ → Result
 ofNumbers op a b = cond (divides op && isZero b) (refused divisorZero) (ranged (exact op a b))
 
+-- an operand alone: its number, or 22
+abbrev pub asResult : Option ℤ → Result
+asResult none = refused notANumber
+asResult (some z) = number z
+
 -- "First operand's 22, second's 22, 23, 24."
+abbrev pub ofResults : Operation → Result → Result → Result
+ofResults op (refused outcome) second = refused outcome
+ofResults op (number a) (refused outcome) = refused outcome
+ofResults op (number a) (number b) = ofNumbers op a b
+
+-- the operation on two operands
 abbrev pub ofOperands : Operation → Option ℤ → Option ℤ → Result
-ofOperands op none second = refused notANumber
-ofOperands op (some a) none = refused notANumber
-ofOperands op (some a) (some b) = ofNumbers op a b
+ofOperands op first second = ofResults op (asResult first) (asResult second)
 
 -- the operation on two texts
 abbrev pub calculated : Operation → List ℕ → List ℕ → Result

@@ -2,3 +2,4 @@ pub mod Operand
 pub mod Shortest
 pub mod Arithmetic
 pub mod Answers
+pub mod Reading

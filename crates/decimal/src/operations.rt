@@ -3,8 +3,8 @@ use crate::reader::Operand;
 use crate::shortest::Decimal;
 ghost use mathlib.Core.Path.{_≡_};
 ghost use lib.IntN.{negℤ};
-ghost use Rattle.decimal.specs.Arithmetic.{number, refused, ofOperands, ofNumbers, ranged};
-ghost use Rattle.decimal.specs.Answers.{answerOf, numberOf};
+ghost use Rattle.decimal.specs.Arithmetic.{number, refused, ofResults, ofNumbers, ranged};
+ghost use Rattle.decimal.specs.Answers.{answerOf, resultIn};
 
 pub enum Operation {
     Sum,
@@ -23,7 +23,7 @@ pub struct Answer {
 impl Operation {
     // "First operand's 22, second's 22, 23, 24."
     pub fn of(self, first: Operand, second: Operand) -> Answer
-        ensures { λ r. ⌜ r ≡ answerOf (ofOperands self (numberOf first) (numberOf second)) ⌝ }
+        ensures { λ r. ⌜ r ≡ answerOf (ofResults self (resultIn first) (resultIn second)) ⌝ }
     {
         let Operand::Number(a) = first else {
             return Answer::refused(Answer::NOT_A_NUMBER);

@@ -1,9 +1,12 @@
 // Reading an operand byte by byte.
 ghost use mathlib.Core.Path.{_≡_};
-ghost use Prim.Native.Nat.{_+_, _*_, min};
+ghost use mathlib.Core.List.{List, [], _∷_, _++_};
 ghost use mathlib.Core.Option.{some};
+ghost use Prim.Native.Nat.{ℕ, _+_, _*_, min};
 ghost use Rattle.decimal.specs.Operand.{operand, ranged};
-ghost use Rattle.decimal.specs.Answers.{operandOf, newReader, after, afterFirst, afterDigit, refusing, found, beyond, signed as signedOf};
+ghost use Rattle.decimal.specs.Arithmetic.{asResult};
+ghost use Rattle.decimal.specs.Answers.{resultIn};
+ghost use Rattle.decimal.specs.Reading.{Took, afterFirst, afterDigit, refusing, beyond, signed as signedOf};
 
 // The number that was read, or that it was none in range.
 pub enum Operand {
@@ -12,18 +15,19 @@ pub enum Operand {
 }
 
 // How far a reader has come.
-pub enum Stage {
+enum Stage {
     Start,
     Signed,
     Digits,
     Refused,
 }
 
-// What was read so far. The size stops growing at one more than any operand has.
+// What was read so far. The size stops growing at one more than any operand has. The fields are private: only `new`
+// and `take` make readers.
 pub struct Reader {
-    pub stage: Stage,
-    pub negative: bool,
-    pub size: u32,
+    stage: Stage,
+    negative: bool,
+    size: u32,
 }
 
 impl Reader {
@@ -31,7 +35,7 @@ impl Reader {
     const BEYOND: u64 = 2147483649;
 
     pub fn new() -> Reader
-        ensures { λ r. ⌜ r ≡ newReader ⌝ }
+        ensures { λ r. ⌜ Took [] r ⌝ }
     {
         Reader {
             stage: Stage::Start,
@@ -42,7 +46,7 @@ impl Reader {
 
     // The reader after one byte more.
     pub fn take(self, byte: u8) -> Reader
-        ensures { λ r. ⌜ r ≡ after self byte ⌝ }
+        ensures { λ r. ⌜ ((bytes : List ℕ) → Took bytes self → Took (bytes ++ (byte ∷ [])) r) ⌝ }
     {
         let stage = self.stage;
         match stage {
@@ -101,7 +105,7 @@ impl Reader {
 
     // What the bytes are, if they end here.
     pub fn finish(self) -> Operand
-        ensures { λ r. ⌜ r ≡ operandOf (found self) ⌝ }
+        ensures { λ r. ⌜ ((bytes : List ℕ) → Took bytes self → resultIn r ≡ asResult (operand bytes)) ⌝ }
     {
         let stage = self.stage;
         match stage {
@@ -127,7 +131,7 @@ fn grown(size: u32, digit: u8) -> u32
 
 // The number of this sign and size, where it is in range.
 fn signed(negative: bool, size: u32) -> Operand
-    ensures { λ r. ⌜ r ≡ operandOf (ranged (some (signedOf negative size))) ⌝ }
+    ensures { λ r. ⌜ resultIn r ≡ asResult (ranged (some (signedOf negative size))) ⌝ }
 {
     if size > 2147483648 {
         return Operand::NoNumber;
@@ -149,7 +153,7 @@ fn signed(negative: bool, size: u32) -> Operand
 
 // The operand that a whole text is.
 pub(crate) fn read(text: &[u8]) -> Operand
-    ensures { λ r. ⌜ r ≡ operandOf (operand (now (text .entry))) ⌝ }
+    ensures { λ r. ⌜ resultIn r ≡ asResult (operand (now (text .entry))) ⌝ }
 {
     let mut reader = Reader::new();
     let mut at = 0;

@@ -1,28 +1,22 @@
 -- The names of the built-ins and the operands of the arithmetic, as they are read from cells.
-use Prim.Native.Nat.{ℕ, _+_, _%_, _≤_}
+use Prim.Native.Nat.{ℕ, _+_, _≤_}
 use native.Mathlib.Omega.{arith}
-use native.Mathlib.Nat.{mod-eq-of-lt}
-use native.Mathlib.Numerals.{add-one}
-use mathlib.Core.Path.{_≡_, refl, ap, _∙_}
+use mathlib.Core.Path.{_≡_, refl}
 use mathlib.Core.Bool.{Bool, true, false, cond, _&&_}
 use mathlib.Core.List.{List, [], _∷_}
 use mathlib.Core.Option.{Option, none, some}
 use lib.ListN.{length, getD}
-use lib.Seq.{drop-cons}
 use lib.Dec.{eqb}
 use lib.IntN.{ℤ}
-use borrow.Author.Tests.{le-ltb}
+use borrow.Author.Tests.{le-leb}
 use Rattle.memory.specs.Block.{block, same}
 use Rattle.memory.proofs.Blocks.{sameBytes-in}
 use Rattle.decimal.specs.declared.operations.Operation.{Operation}
 use Rattle.decimal.specs.declared.operations.Answer.{Answer}
-use Rattle.decimal.specs.declared.reader.Reader.{Reader}
 use Rattle.decimal.specs.Operand.{operand, inRange}
 use Rattle.decimal.specs.Shortest.{shortest}
 use Rattle.decimal.specs.Arithmetic.{Result, number, refused, divides, isZero, exact, ofOperands, calculated}
-use Rattle.decimal.specs.Answers.{operandOf, answerOf, after, afterAll, newReader}
-use Rattle.decimal.specs.Answers.{numberOf as readBack}
-use Rattle.decimal.proofs.Reading.{reading}
+use Rattle.decimal.specs.Answers.{answerOf}
 use Rattle.decimal.proofs.Laws.{result-in-range, at-most-eleven}
 use Rattle.decimal.proofs.Texts.{filled-text, filled-length}
 use Rattle.language.specs.declared.built_ins.BuiltIn.{BuiltIn}
@@ -31,12 +25,12 @@ use Rattle.language.specs.Outcomes
 use Rattle.language.specs.Definitions.{Content, macro, builtIn, Definition, Found, found, missing, newest, counts, live}
 use Rattle.language.specs.Definitions as D
 use Rattle.language.specs.BuiltIns.{builtIns}
-use Rattle.language.specs.Matched.{empty, with}
 use Rattle.language.proofs.Lists.{either}
 use Rattle.language.specs.Octets.{Octets}
-use Rattle.machine.specs.Walks.{namedAs, namedAmong, builtInNamed, readBytes, operandAt, calculate}
+use Rattle.machine.specs.Walks.{namedAs, namedAmong, builtInNamed, operandAt, calculate}
 use Rattle.machine.specs.declared.operands.Named.{Named}
 use Rattle.machine.specs.declared.operands.Named.the-variants.{Unknown}
+use Rattle.machine.proofs.Fetching.{block-low}
 
 -- What is shown ------------------------------------------------------------------------------------------------------
 
@@ -103,24 +97,6 @@ unfolding newest live
 own-of t [] e = unknown
 own-of t (d ∷ ds) e = either Own (D.same t (d .name)) (content-own (length ds) (d .content) (omega arith)) (own-of t ds (omega arith))
 
--- Operands -----------------------------------------------------------------------------------------------------------
-
--- the bytes in the cells are read one by one
-read-is : (l : List ℕ) (p : ℕ) (r : Reader) {t : Bytes} → block p (length t) l ≡ t → p + length t ≤ length l → Octets t
-    → readBytes (length t) l p r ≡ afterAll r t
-unfolding readBytes afterAll
-read-is l p r e h empty = refl
-read-is l p r e h (with {x = b} {xs = t} small os) =
-    let c = rw (drop-cons l p 0 (omega arith)) at e in
-    let q : getD l p 0 % 256 ≡ b = ap (λ (x : ℕ). x % 256) (cc) ∙ mod-eq-of-lt small in
-    let s : block (p + 1) (length t) l ≡ t = rw add-one (cc) in
-    ap (λ (x : ℕ). readBytes (length t) l (p + 1) (after r x)) q ∙ read-is l (p + 1) (after r b) s (omega arith) os
-
--- an operand comes back from the code's
-back : (o : Option ℤ) → readBack (operandOf o) ≡ o
-back none = refl
-back (some z) = refl
-
 -- Answers ------------------------------------------------------------------------------------------------------------
 
 -- a refusal does not finish
@@ -145,16 +121,15 @@ pub builtInNamed-is : {l : List ℕ} {name : ℕ} {t : Bytes} → TextAt l name 
 builtInNamed-is h = first-is h builtIns
 
 -- the code reads the operand in the cells
-pub operandAt-is : {l : List ℕ} {p : ℕ} {t : Bytes} → TextAt l p t → Octets t → operandAt l p ≡ operandOf (operand t)
+pub operandAt-is : {l : List ℕ} {p : ℕ} {t : Bytes} → TextAt l p t → Octets t → operandAt l p ≡ operand t
 operandAt-is {l} {p} {t} h os =
-    rw (h .counted, le-ltb (length l) (length t) (omega (arith, h .within)), read-is l (p + 1) newReader (h .bytes) (h .within) os, reading t)
+    rw (h .counted, le-leb (p + 1 + length t) (length l) (h .within), block-low (p + 1) t l (h .bytes) os)
 
 -- the code calculates what the operation gives for the two texts
 pub calculate-is : (op : Operation) {l : List ℕ} {first second : ℕ} {t₁ t₂ : Bytes}
     → TextAt l first t₁ → Octets t₁ → TextAt l second t₂ → Octets t₂
     → calculate op l first second ≡ answerOf (calculated op t₁ t₂)
-calculate-is op {t₁ = t₁} {t₂ = t₂} h₁ o₁ h₂ o₂ =
-    rw (operandAt-is h₁ o₁, operandAt-is h₂ o₂, back (operand t₁), back (operand t₂))
+calculate-is op h₁ o₁ h₂ o₂ = rw (operandAt-is h₁ o₁, operandAt-is h₂ o₂)
 
 -- a number is answered by its shortest decimal
 pub answer-number : (op : Operation) (t₁ t₂ : Bytes) {z : ℤ} → calculated op t₁ t₂ ≡ number z → Holding (answerOf (number z)) (shortest z)

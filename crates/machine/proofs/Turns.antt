@@ -1,14 +1,14 @@
 -- One turn of each walk: what it answers with no turn left, and what it answers with one at least. And a test that a call answered.
 use Prim.Native.Nat.{ℕ, zero, suc, _+_, _-_, _%_, _<_}
 use mathlib.Core.Bool.{Bool, true, false, cond}
-use mathlib.Core.List.{List}
+use mathlib.Core.List.{List, [], _∷_, _++_}
 use mathlib.Core.Path.{_≡_, refl, sym, _∙_}
 use native.Mathlib.Omega.{arith}
 use lib.ListN.{length, getD}
 use lib.Dec.{eqb, leb}
-use Rattle.decimal.specs.declared.reader.Reader.{Reader}
-use Rattle.decimal.specs.Answers.{after}
-use Rattle.machine.specs.Walks.{nowhere, mark, argument, size, isNamed, nextPosition, nextList, newestFrom, definitionsFrom, high, low, isReadFrom, readBytes, listLink, returnLink}
+use Rattle.memory.specs.Block.{block, lowBytes}
+use Rattle.memory.proofs.Blocks.{block-more, length-lowBytes, getD-lowBytes}
+use Rattle.machine.specs.Walks.{nowhere, mark, argument, size, isNamed, nextPosition, nextList, newestFrom, definitionsFrom, high, low, isReadFrom, listLink, returnLink}
 
 -- the value of a test that a call answered
 pub told : {r b v : Bool} → r ≡ b → r ≡ v → b ≡ v
@@ -62,11 +62,6 @@ module _ (l : List ℕ) where
   isRead-turn zero list body definition h = absurd (omega arith)
   isRead-turn (suc t) list body definition h = rw (less t)
 
-  pub readBytes-done : (p : ℕ) (r : Reader) → readBytes 0 l p r ≡ r
-  unfolding readBytes
-  readBytes-done p r = refl
-
-  pub readBytes-turn : (k p : ℕ) (r : Reader) → 0 < k → readBytes k l p r ≡ readBytes (k - 1) l (p + 1) (after r (getD l p 0 % 256))
-  unfolding readBytes
-  readBytes-turn zero p r h = absurd (omega arith)
-  readBytes-turn (suc k) p r h = rw (less k)
+  -- the low bytes of one cell more
+  pub low-turn : (from taken : ℕ) → from + taken < length l → block from (taken + 1) (lowBytes l) ≡ block from taken (lowBytes l) ++ ((getD l (from + taken) 0 % 256) ∷ [])
+  low-turn from taken h = block-more from taken (lowBytes l) (rw length-lowBytes h) ∙ rw getD-lowBytes

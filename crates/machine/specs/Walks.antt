@@ -2,16 +2,16 @@
 use Prim.Native.Nat.{ℕ, zero, suc, _+_, _*_, _/_, _%_}
 use mathlib.Core.Bool.{Bool, true, false, cond}
 use mathlib.Core.List.{List, [], _∷_}
-use mathlib.Core.Option.{none}
+use mathlib.Core.Option.{Option, none}
 use lib.ListN.{length, getD, set}
-use lib.Dec.{eqb, leb, ltb}
-use Rattle.memory.specs.Block.{sameBlocks, sameBytes}
+use lib.Dec.{eqb, leb}
+use lib.IntN.{ℤ}
+use Rattle.memory.specs.Block.{within, block, lowBytes, sameBlocks, sameBytes}
 use Rattle.decimal.specs.declared.operations.Operation.{Operation}
 use Rattle.decimal.specs.declared.operations.Answer.{Answer}
-use Rattle.decimal.specs.declared.reader.Reader.{Reader}
-use Rattle.decimal.specs.declared.reader.Operand.{Operand}
-use Rattle.decimal.specs.Answers.{answerOf, operandOf, numberOf, newReader, after, found}
+use Rattle.decimal.specs.Operand.{operand}
 use Rattle.decimal.specs.Arithmetic.{ofOperands}
+use Rattle.decimal.specs.Answers.{answerOf}
 use Rattle.language.specs.Definitions.{Content, macro, builtIn, Definition}
 use Rattle.language.specs.BuiltIns.{builtIns}
 use Rattle.machine.specs.declared.operands.Named.{Named}
@@ -151,13 +151,9 @@ namedAmong l name (d ∷ ds) =
 abbrev pub builtInNamed : List ℕ → ℕ → Named
 builtInNamed l name = namedAmong l name builtIns
 
--- the operand in the argument at a length cell, byte by byte
-unfoldable pub readBytes : ℕ → List ℕ → ℕ → Reader → Reader
-readBytes zero l p reader = reader
-readBytes (suc k) l p reader = readBytes k l (p + 1) (after reader (getD l p 0 % 256))
-
-abbrev pub operandAt : List ℕ → ℕ → Operand
-operandAt l p = operandOf (cond (ltb (length l) (getD l p 0)) none (found (readBytes (getD l p 0) l (p + 1) newReader)))
+-- the operand in the argument at a length cell; none where the argument does not lie within the cells
+abbrev pub operandAt : List ℕ → ℕ → Option ℤ
+operandAt l p = cond (within (p + 1) (getD l p 0) l) (operand (block (p + 1) (getD l p 0) (lowBytes l))) none
 
 abbrev pub calculate : Operation → List ℕ → ℕ → ℕ → Answer
-calculate op l first second = answerOf (ofOperands op (numberOf (operandAt l first)) (numberOf (operandAt l second)))
+calculate op l first second = answerOf (ofOperands op (operandAt l first) (operandAt l second))

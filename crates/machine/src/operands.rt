@@ -6,7 +6,9 @@ use decimal::reader::Reader;
 use language::built_ins::BuiltIn;
 ghost use mathlib.Core.Path.{_≡_};
 ghost use Prim.Native.Nat.{_≤_};
-ghost use lib.ListN.{length, drop};
+ghost use lib.ListN.{drop};
+ghost use Rattle.decimal.specs.Arithmetic.{asResult};
+ghost use Rattle.decimal.specs.Answers.{resultIn};
 ghost use Rattle.language.specs.BuiltIns.{builtIns};
 ghost use Rattle.machine.specs.Walks.{builtInNamed, namedAmong, operandAt, calculate};
 
@@ -60,29 +62,28 @@ fn arithmetic(cells: &[u32], name: usize) -> Named
 
 // The operation of a built-in on two arguments.
 pub(crate) fn calculate(operation: Operation, cells: &[u32], first: usize, second: usize) -> Answer
-    requires { ⌜ (length (now cells) ≤ 65536) × (first ≤ 8589934592) × (second ≤ 8589934592) ⌝ }
+    requires { ⌜ (first ≤ 8589934592) × (second ≤ 8589934592) ⌝ }
     ensures { λ r. ⌜ r ≡ calculate operation (now (cells .entry)) first second ⌝ }
 {
     operation.of(operand(cells, first), operand(cells, second))
 }
 
-// The operand in the argument at a length cell.
+// The operand in the argument at a length cell. An argument that does not lie within the cells is no number.
 fn operand(cells: &[u32], argument: usize) -> Operand
-    requires { ⌜ (length (now cells) ≤ 65536) × (argument ≤ 8589934592) ⌝ }
-    ensures { λ r. ⌜ r ≡ operandAt (now (cells .entry)) argument ⌝ }
+    requires { ⌜ argument ≤ 8589934592 ⌝ }
+    ensures { λ r. ⌜ resultIn r ≡ asResult (operandAt (now (cells .entry)) argument) ⌝ }
 {
     let count = memory::read(cells, argument) as usize;
-    if cells.len() < count {
+    let from = argument + 1;
+    if cells.len() < from + count {
         return Operand::NoNumber;
     }
     let mut reader = Reader::new();
-    let mut due = count;
-    let mut position = argument + 1;
-    while due > 0 {
-        let byte = (memory::read(cells, position) % 256) as u8;
+    let mut taken = 0;
+    while taken < count {
+        let byte = (memory::read(cells, from + taken) % 256) as u8;
         reader = reader.take(byte);
-        position += 1;
-        due -= 1;
+        taken += 1;
     }
     reader.finish()
 }

@@ -1,8 +1,5 @@
 -- The two operands are read, and the operation is on what was read.
-use mathlib.Core.Path.{ap, _∙_}
 use borrow.Author.Needs.{needs}
-use Rattle.decimal.specs.Answers.{answerOf}
-use Rattle.decimal.proofs.Results.{of-read}
 use Rattle.decimal.proofs.calculate.Statement.{statement}
 use Rattle.decimal.proofs.calculate.Tie as tie
 
@@ -16,7 +13,7 @@ of-requires : tie.Need-of-requires
 of-requires c κs = search needs
 
 returns : tie.Need-returns
-returns c = c .of .ensures ∙ ap answerOf (of-read (c .before .before .before .before .before .args .operation) _ _ (c .before .before .read .ensures) (c .before .read2 .ensures))
+returns c = rw (← c .before .before .read .ensures, ← c .before .read2 .ensures) (c .of .ensures)
 
 pub calculate-spec : {M : Type 1} → statement M
 calculate-spec =

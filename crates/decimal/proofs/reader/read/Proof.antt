@@ -1,17 +1,16 @@
 -- The reader has read as many bytes of the text as the loop has passed, and at the end all of them. The measure is what is left.
-use Prim.Native.Nat.{_≤_, _-_}
-use mathlib.Core.Path.{_≡_, ap}
+use Prim.Native.Nat.{ℕ, _≤_, _-_}
 use native.Mathlib.Omega.{arith}
+use native.Mathlib.Numerals.{add-one}
 use borrow.Author.Needs.{needs}
 use lib.ListN.{length, take}
-use lib.Seq.{take-all}
-use Rattle.decimal.specs.Answers.{newReader, afterAll, operandOf}
-use Rattle.decimal.proofs.Reading.{afterAll-next, reading}
+use lib.Seq.{take-all, take-suc}
+use Rattle.decimal.specs.Reading.{Took}
 use Rattle.decimal.proofs.reader.read.Statement.{statement}
 use Rattle.decimal.proofs.reader.read.Tie as tie
 
 abbrev Inv-loop : tie.InvT-loop
-Inv-loop text reader₀ at₀ reader at = (at ≤ length text) × (reader ≡ afterAll newReader (take at text))
+Inv-loop text reader₀ at₀ reader at = (at ≤ length text) × Took (take at text) reader
 
 abbrev μ-loop : tie.MeasureT-loop
 μ-loop text reader₀ at₀ reader at = length text - at
@@ -20,7 +19,6 @@ new-requires : tie.Need-new-requires Inv-loop μ-loop
 new-requires c κs = search needs
 
 loop-holds : tie.Need-loop-holds Inv-loop μ-loop
-unfolding afterAll
 loop-holds c = (search needs, c .new .ensures)
 
 shared-slice-read-take : tie.Need-shared-slice-read-take Inv-loop μ-loop
@@ -38,7 +36,7 @@ loop-less c = search needs
 loop-again : tie.Need-loop-again Inv-loop μ-loop
 loop-again c =
     let inv = c .before .before .before .loop .inv in
-    (omega arith, rw (c .take .ensures, inv .1) (afterAll-next newReader _ _ (c .before .before .loop-test .taken)))
+    (omega arith, rw (add-one, take-suc {A = ℕ} _ _ 0 (c .before .before .loop-test .taken)) (c .take .ensures _ (inv .1)))
 
 finish-requires : tie.Need-finish-requires Inv-loop μ-loop
 finish-requires c κs = search needs
@@ -46,7 +44,7 @@ finish-requires c κs = search needs
 returns : tie.Need-returns Inv-loop μ-loop
 returns c =
     let inv = c .before .before .loop .inv in
-    rw (c .finish .ensures, inv .1, take-all _ _ (c .before .loop-test .left)) (ap operandOf (reading _))
+    rw (take-all _ _ (c .before .loop-test .left)) at (c .finish .ensures _ (inv .1))
 
 pub read-spec : {M : Type 1} → statement M
 read-spec =

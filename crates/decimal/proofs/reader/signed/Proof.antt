@@ -4,7 +4,7 @@ use mathlib.Core.Path.{sym, ap}
 use native.Mathlib.Omega.{arith}
 use borrow.Author.Needs.{needs}
 use lib.IntN.{pos, negℤ}
-use Rattle.decimal.specs.Answers.{operandOf}
+use Rattle.decimal.specs.Arithmetic.{asResult}
 use Rattle.decimal.proofs.Ranges.{in-range, mag-negated}
 use Rattle.decimal.proofs.Machine.{size-is, negated-size-fits, negated-size-is}
 use Rattle.decimal.proofs.Reading.{over}
@@ -12,7 +12,7 @@ use Rattle.decimal.proofs.reader.signed.Statement.{statement}
 use Rattle.decimal.proofs.reader.signed.Tie as tie
 
 returns : tie.Need-returns
-returns c = ap operandOf (sym (over (c .before .args .negative) (c .before .args .size) (c .if1 .taken)))
+returns c = ap asResult (sym (over (c .before .args .negative) (c .before .args .size) (c .if1 .taken)))
 
 returns-2 : tie.Need-returns-2
 returns-2 c = rw (c .if3 .taken, c .before .if2 .taken)

@@ -1,5 +1,6 @@
 -- What is taken goes by the stage, as in the definition.
 use borrow.Author.Needs.{needs}
+use Rattle.decimal.proofs.Reading.{took-more}
 use Rattle.decimal.proofs.reader.Reader.take.Statement.{statement}
 use Rattle.decimal.proofs.reader.Reader.take.Tie as tie
 
@@ -25,16 +26,16 @@ enum-told-4 : tie.Need-enum-told-4
 enum-told-4 c = search needs
 
 returns : tie.Need-returns
-returns c = rw (c .before .enum-told .given .1) (c .take-first .ensures)
+returns c = took-more _ _ (rw (c .before .enum-told .given .1) (c .take-first .ensures))
 
 returns-2 : tie.Need-returns-2
-returns-2 c = rw (c .before .enum-told2 .given .1) (c .take-digit .ensures)
+returns-2 c = took-more _ _ (rw (c .before .enum-told2 .given .1) (c .take-digit .ensures))
 
 returns-3 : tie.Need-returns-3
-returns-3 c = rw (c .before .enum-told3 .given .1) (c .take-digit2 .ensures)
+returns-3 c = took-more _ _ (rw (c .before .enum-told3 .given .1) (c .take-digit2 .ensures))
 
 returns-4 : tie.Need-returns-4
-returns-4 c = search needs
+returns-4 c = took-more _ _ (rw (c .enum-told4 .given .1))
 
 pub take-spec : {M : Type 1} → statement M
 take-spec =
