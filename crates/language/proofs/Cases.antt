@@ -1,24 +1,30 @@
 -- The starred cases of document 01, with every count, against both definitions; Strachey's successor of a digit and a script
--- that nests calls, quotes and definitions four deep besides. A second table pins what the two definitions share, and a few
--- runs the ends that substitution does not have.
-use Prim.Native.Nat.{ℕ}
+-- that nests calls, quotes and definitions four deep besides. A second table pins what the two definitions share: a rule that
+-- is wrong in both is refused by nothing but these. A third has runs in what is lent, with the ends that substitution does not
+-- have.
+use Prim.Native.Nat.{ℕ, zero, suc}
 use Prim.Native.String.{String}
 use mathlib.Core.Path.{_≡_, refl, ap}
 use mathlib.Core.Bool.{Bool, true, false, cond, _&&_}
-use mathlib.Core.List.{List, [], _∷_}
+use mathlib.Core.List.{List, [], _∷_, _++_}
 use mathlib.Core.Option.{Option, none, some}
+use lib.ListN.{length, replicate}
 use lib.Dec.{eqb}
 use Rattle.decimal.specs.Operand.{operand, digitsFrom}
 use Rattle.decimal.specs.Shortest.{digitsOf}
-use Rattle.language.specs.Signs.{Bytes, ascii, standard, meaning}
+use Rattle.language.specs.Signs.{Bytes, ascii, standard, meaning, parameterNumber}
 use Rattle.language.specs.Outcomes
-use Rattle.language.specs.Definitions.{same, newest, altered, live, among}
+use Rattle.language.specs.Definitions.{macro, Definition, same, newest, altered, live, among}
 use Rattle.language.specs.BuiltIns.{builtIns, deed}
 use Rattle.language.specs.Charge.{argumentsPrice, definitionsPrice}
 use Rattle.language.specs.Ends.{End, Reported, reported}
-use Rattle.language.specs.Scanning.{run, scan, scans, callsCharge, bodiesCharge, reading}
+use Rattle.language.specs.Scanning.{noLimits, run, scan, scans, callsCharge, bodiesCharge, reading}
 use Rattle.language.specs.Substitution.{substituted, eval, within}
-use Rattle.language.specs.Expansion.{Given, limitsOf, sizesTooLarge, tooLarge, refusedBy, answered, expanded}
+use Rattle.language.specs.Expansion.{Given, Returned, lent, limitsOf, sizesTooLarge, tooLarge, refusedBy, answered, cleared, expanded}
+
+-- the six numbers of a report in document 01's order: outcome, read, written, scans, most, live
+abbrev report : ℕ → ℕ → ℕ → ℕ → ℕ → ℕ → Reported
+report o r w s m l = record { outcome = o; read = r; written = w; scans = s; most = m; live = l }
 
 -- a name, the script, its output and its report
 abbrev Case : Type 0
@@ -26,57 +32,115 @@ Case = String × String × String × Reported
 
 abbrev starred : List Case
 starred =
-    ("a", "$DEF,k,<p~1>;$k,7;", "p7", record { outcome = 0; read = 18; written = 2; scans = 22; most = 16; live = 1 }) ∷
-    ("b", "", "", record { outcome = 0; read = 0; written = 0; scans = 1; most = 0; live = 0 }) ∷
-    ("c", "$A,X,U,$DEF,A,<~1~2~1>;;", "XUX", record { outcome = 0; read = 24; written = 3; scans = 29; most = 27; live = 0 }) ∷
-    ("d", "a<b<c>d>e", "ab<c>de", record { outcome = 0; read = 9; written = 7; scans = 10; most = 0; live = 0 }) ∷
-    ("e", "p>q", "p", record { outcome = 1; read = 2; written = 1; scans = 2; most = 0; live = 0 }) ∷
-    ("f", "$DEF,k,<1,2>;$DEF,j,<~1+~2>;$j,$k;;", "1+2", record { outcome = 0; read = 35; written = 3; scans = 44; most = 33; live = 2 }) ∷
-    ("g", "$DEF,k,<x;>;$k;", "x", record { outcome = 10; read = 15; written = 1; scans = 17; most = 13; live = 1 }) ∷
-    ("h", "$DEF,k,<$j>;$k;", "", record { outcome = 14; read = 15; written = 0; scans = 18; most = 18; live = 1 }) ∷
-    ("i", "$DEF,t,<$~1,$DEF,~1,no;$DEF,a,yes;;>;$t,a;$t,b;", "yesno", record { outcome = 0; read = 47; written = 5; scans = 107; most = 67; live = 1 }) ∷
-    ("j", "$DEF,k,ab;$UPDATE,k,c;$k;$UPDATE,k,xy;$k;", "cxy", record { outcome = 0; read = 41; written = 3; scans = 47; most = 23; live = 1 }) ∷
-    ("j, longer", "$DEF,k,ab;$UPDATE,k,c;$k;$UPDATE,k,xyz;$k;", "c", record { outcome = 21; read = 39; written = 1; scans = 41; most = 24; live = 1 }) ∷
-    ("k", "$DEF,k,<$UPDATE,k,a;>;$k;", "", record { outcome = 20; read = 25; written = 0; scans = 37; most = 38; live = 1 }) ∷
-    ("l", "$DEF,mk,<$DEF,m,z;>;$mk;$m;", "z", record { outcome = 0; read = 27; written = 1; scans = 40; most = 34; live = 2 }) ∷
-    ("Strachey's Suc", "$DEF,Suc,<$1,2,3,4,5,6,7,8,9,10,$DEF,1,<~>~1;;>;$Suc,0;", "1", record { outcome = 0; read = 55; written = 1; scans = 94; most = 91; live = 1 }) ∷
-    ("four deep", "$DEF,w,<[~1$DEF,x,<(~1$DEF,y,<{~1$DEF,z,<|~1|>;$z,~1;}>;$y,~1;)>;$x,~1;]>;$w,k;", "[k(k{k|k|})]", record { outcome = 0; read = 79; written = 12; scans = 213; most = 188; live = 4 }) ∷
+    ("a", "$DEF,k,<p~1>;$k,7;", "p7", report 0 18 2 22 16 1) ∷
+    ("b", "", "", report 0 0 0 1 0 0) ∷
+    ("c", "$A,X,U,$DEF,A,<~1~2~1>;;", "XUX", report 0 24 3 29 27 0) ∷
+    ("d", "a<b<c>d>e", "ab<c>de", report 0 9 7 10 0 0) ∷
+    ("e", "p>q", "p", report 1 2 1 2 0 0) ∷
+    ("f", "$DEF,k,<1,2>;$DEF,j,<~1+~2>;$j,$k;;", "1+2", report 0 35 3 44 33 2) ∷
+    ("g", "$DEF,k,<x;>;$k;", "x", report 10 15 1 17 13 1) ∷
+    ("h", "$DEF,k,<$j>;$k;", "", report 14 15 0 18 18 1) ∷
+    ("i", "$DEF,t,<$~1,$DEF,~1,no;$DEF,a,yes;;>;$t,a;$t,b;", "yesno", report 0 47 5 107 67 1) ∷
+    ("j", "$DEF,k,ab;$UPDATE,k,c;$k;$UPDATE,k,xy;$k;", "cxy", report 0 41 3 47 23 1) ∷
+    ("j, longer", "$DEF,k,ab;$UPDATE,k,c;$k;$UPDATE,k,xyz;$k;", "c", report 21 39 1 41 24 1) ∷
+    ("k", "$DEF,k,<$UPDATE,k,a;>;$k;", "", report 20 25 0 37 38 1) ∷
+    ("l", "$DEF,mk,<$DEF,m,z;>;$mk;$m;", "z", report 0 27 1 40 34 2) ∷
+    ("Strachey's Suc", "$DEF,Suc,<$1,2,3,4,5,6,7,8,9,10,$DEF,1,<~>~1;;>;$Suc,0;", "1", report 0 55 1 94 91 1) ∷
+    ("four deep", "$DEF,w,<[~1$DEF,x,<(~1$DEF,y,<{~1$DEF,z,<|~1|>;$z,~1;}>;$y,~1;)>;$x,~1;]>;$w,k;", "[k(k{k|k|})]", report 0 79 12 213 188 4) ∷
     []
 
--- what both definitions share: arithmetic, VAL, needs and surplus, finding and numbering definitions, and the faults that
--- no starred case has
+-- what both definitions share, or could have wrong alike; each is named by what it pins
 abbrev shared : List Case
 shared =
-    ("n, difference", "$-,3,5;", "-2", record { outcome = 0; read = 7; written = 2; scans = 8; most = 10; live = 0 }) ∷
-    ("n, quotient", "$Quot,-7,2;", "-3", record { outcome = 0; read = 11; written = 2; scans = 12; most = 14; live = 0 }) ∷
-    ("n, remainder", "$Rem,-7,2;", "-1", record { outcome = 0; read = 10; written = 2; scans = 11; most = 13; live = 0 }) ∷
-    ("a script defines VAL", "$DEF,VAL,<v~1>;$VAL,VAL;", "vVAL", record { outcome = 0; read = 24; written = 4; scans = 28; most = 22; live = 1 }) ∷
-    ("VAL of a name defined in its own list", "$VAL,k$DEF,k,v;;", "v", record { outcome = 0; read = 16; written = 1; scans = 17; most = 21; live = 0 }) ∷
-    ("surplus parameters", "$DEF,k,<~1>,x,y;$k,a,b,c;$VAL,k,z;$+,1,2,3;", "a~13", record { outcome = 0; read = 43; written = 4; scans = 46; most = 19; live = 1 }) ∷
-    ("20 is about the definition, not the name", "$DEF,k,ab;$DEF,j,<$UPDATE,k,x;$k;>;$DEF,k,<$j;>;$k;", "", record { outcome = 20; read = 51; written = 0; scans = 66; most = 62; live = 3 }) ∷
-    ("20 before 21", "$DEF,k,<$UPDATE,k,~1;>;$k,abcdefghijklmn;", "", record { outcome = 20; read = 41; written = 0; scans = 53; most = 67; live = 1 }) ∷
-    ("o, 11", "$a,~1;", "", record { outcome = 11; read = 4; written = 0; scans = 4; most = 6; live = 0 }) ∷
-    ("o, 15", "$j;", "", record { outcome = 15; read = 3; written = 0; scans = 3; most = 6; live = 0 }) ∷
-    ("15, the beginning of a name", "$DEF,kk,v;$k;", "", record { outcome = 15; read = 13; written = 0; scans = 13; most = 13; live = 1 }) ∷
-    ("15, a name and more", "$DEF,k,v;$kk;", "", record { outcome = 15; read = 13; written = 0; scans = 13; most = 13; live = 1 }) ∷
-    ("15 by VAL", "$VAL,q;", "", record { outcome = 15; read = 7; written = 0; scans = 7; most = 10; live = 0 }) ∷
-    ("15 by UPDATE", "$UPDATE,q,x;", "", record { outcome = 15; read = 12; written = 0; scans = 12; most = 15; live = 0 }) ∷
-    ("12, no digit", "$DEF,k,<~a>;$k;", "", record { outcome = 12; read = 15; written = 0; scans = 16; most = 13; live = 1 }) ∷
-    ("13 at ~", "$DEF,k,<~2>;$k,a;", "", record { outcome = 13; read = 17; written = 0; scans = 18; most = 15; live = 1 }) ∷
-    ("13 of DEF", "$DEF,a;", "", record { outcome = 13; read = 7; written = 0; scans = 7; most = 10; live = 0 }) ∷
-    ("13 of VAL", "$VAL;", "", record { outcome = 13; read = 5; written = 0; scans = 5; most = 8; live = 0 }) ∷
-    ("13 of UPDATE, before 19", "$UPDATE,DEF;", "", record { outcome = 13; read = 12; written = 0; scans = 12; most = 15; live = 0 }) ∷
-    ("13 of +", "$+,1;", "", record { outcome = 13; read = 5; written = 0; scans = 5; most = 8; live = 0 }) ∷
-    ("16", "$a>", "", record { outcome = 16; read = 3; written = 0; scans = 3; most = 5; live = 0 }) ∷
-    ("17 before 18", "$a<", "", record { outcome = 17; read = 3; written = 0; scans = 4; most = 5; live = 0 }) ∷
-    ("18", "$a,b", "", record { outcome = 18; read = 4; written = 0; scans = 5; most = 7; live = 0 }) ∷
-    ("19 by VAL", "$VAL,Rem;", "", record { outcome = 19; read = 9; written = 0; scans = 9; most = 12; live = 0 }) ∷
-    ("19 by UPDATE", "$UPDATE,DEF,x;", "", record { outcome = 19; read = 14; written = 0; scans = 14; most = 17; live = 0 }) ∷
-    ("22", "$+,x,1;", "", record { outcome = 22; read = 7; written = 0; scans = 7; most = 10; live = 0 }) ∷
-    ("23", "$Quot,1,0;", "", record { outcome = 23; read = 10; written = 0; scans = 10; most = 13; live = 0 }) ∷
-    ("24 of Quot", "$Quot,-2147483648,-1;", "", record { outcome = 24; read = 21; written = 0; scans = 21; most = 24; live = 0 }) ∷
-    ("24 of *", "$*,65536,65536;", "", record { outcome = 24; read = 15; written = 0; scans = 15; most = 18; live = 0 }) ∷
+    -- signs where no call is open, and in quotes
+    ("o, signs where no call is open", "a,b;c~1", "a,b;c~1", report 0 7 7 8 0 0) ∷
+    ("a body's comma in the output", "$DEF,k,<a,b>;$k;", "a,b", report 0 16 3 21 14 1) ∷
+    ("a body in a body of an argument", "$DEF,a,<x,y>;$DEF,b,<[$a;]>;$DEF,j,<~2~1>;$j,$b;;", "y][x", report 0 49 4 63 49 3) ∷
+    ("commas of a value and of a parameter", "$DEF,k,<1,2>;$DEF,j,<[~1]>;$DEF,i,<$j,~1;>;$i,$VAL,k;;", "[1,2]", report 0 54 5 65 48 3) ∷
+    ("a body's comma ends a name", "$DEF,k,<DEF,m>;$$k;,v;$m;", "v", report 0 25 1 34 25 2) ∷
+    ("signs in quotes", "<$,;~<$,;~>>", "$,;~<$,;~>", report 0 12 10 13 0 0) ∷
+    -- names and parameters
+    ("15, the beginning of a name", "$DEF,kk,v;$k;", "", report 15 13 0 13 13 1) ∷
+    ("15, a name and more", "$DEF,k,v;$kk;", "", report 15 13 0 13 13 1) ∷
+    ("the empty name", "$DEF,,e;$;", "e", report 0 10 1 13 11 1) ∷
+    ("an empty value and an empty parameter", "$DEF,e,;$UPDATE,e,;$DEF,k,<[~1]>;$VAL,e;$e;$k,;", "[]", report 0 47 2 53 24 2) ∷
+    ("~0 and ~9", "$DEF,k,<~0~9>;$k,1,2,3,4,5,6,7,8,9;", "k9", report 0 35 2 39 33 1) ∷
+    ("a script defines VAL", "$DEF,VAL,<v~1>;$VAL,VAL;", "vVAL", report 0 24 4 28 22 1) ∷
+    -- which definitions go
+    ("a definition made in a name goes", "$DEF,k,v;$$DEF,m,z;k,x;$m;", "v", report 15 26 1 28 22 1) ∷
+    ("a definition made in DEF's own list goes", "$DEF,a,$DEF,b,c;;$b;", "", report 15 20 0 20 22 1) ∷
+    ("definitions of a list go, of its body stay", "$DEF,mk,<$DEF,m,z;>;$mk,$DEF,n,y;;$m;$n;", "z", report 15 40 1 52 41 2) ∷
+    ("a definition made by a body in a list goes", "$DEF,mk,<$DEF,m,z;>;$DEF,k,v;$k,$mk;;$m;", "v", report 15 40 1 52 46 2) ∷
+    ("VAL of a name defined in its own list", "$VAL,k$DEF,k,v;;", "v", report 0 16 1 17 21 0) ∷
+    ("UPDATE of a name defined in its own list", "$DEF,k,ab;$UPDATE,k,x$DEF,k,cd;;$k;", "ab", report 0 35 2 39 34 1) ∷
+    -- what a built-in needs, and what it ignores
+    ("13 of DEF", "$DEF,a;", "", report 13 7 0 7 10 0) ∷
+    ("13 of VAL", "$VAL;", "", report 13 5 0 5 8 0) ∷
+    ("13 of UPDATE, before 19", "$UPDATE,DEF;", "", report 13 12 0 12 15 0) ∷
+    ("13 of UPDATE, before 15", "$UPDATE,q;", "", report 13 10 0 10 13 0) ∷
+    ("13 of +", "$+,1;", "", report 13 5 0 5 8 0) ∷
+    ("13 of +, before 22", "$+,x;", "", report 13 5 0 5 8 0) ∷
+    ("surplus parameters", "$DEF,k,<~1>,x,y;$k,a,b,c;$VAL,k,z;$+,1,2,3;", "a~13", report 0 43 4 46 19 1) ∷
+    ("surplus parameters of UPDATE", "$DEF,k,ab;$UPDATE,k,x,yz;$k;", "x", report 0 28 1 31 25 1) ∷
+    -- VAL and UPDATE
+    ("15 by VAL", "$VAL,q;", "", report 15 7 0 7 10 0) ∷
+    ("15 by UPDATE", "$UPDATE,q,x;", "", report 15 12 0 12 15 0) ∷
+    ("19 by VAL", "$VAL,Rem;", "", report 19 9 0 9 12 0) ∷
+    ("19 by UPDATE", "$UPDATE,DEF,x;", "", report 19 14 0 14 17 0) ∷
+    ("19 is about the definition, not the name", "$DEF,Rem,ab;$UPDATE,Rem,c;$VAL,Rem;", "c", report 0 35 1 36 26 1) ∷
+    ("20 of an outer body", "$DEF,k,ab;$DEF,j,<$UPDATE,k,x;$k;>;$DEF,k,<$j;>;$k;", "", report 20 51 0 66 62 3) ∷
+    ("20 of the newest of two with a name", "$DEF,k,<$DEF,k,ab;$UPDATE,k,c;$k;>;$k;", "c", report 0 38 1 67 58 2) ∷
+    ("UPDATE of an older one in a body", "$DEF,k,ab;$DEF,j,<$UPDATE,k,c;>;$j;$k;", "c", report 0 38 1 54 45 2) ∷
+    ("20 of the inner of two bodies", "$DEF,k,<$UPDATE,k,a;>;$DEF,j,<$k;>;$j;", "", report 20 38 0 53 52 2) ∷
+    ("20 before 21", "$DEF,k,<$UPDATE,k,~1;>;$k,abcdefghijklmn;", "", report 20 41 0 53 67 1) ∷
+    -- arithmetic
+    ("n, difference", "$-,3,5;", "-2", report 0 7 2 8 10 0) ∷
+    ("n, quotient", "$Quot,-7,2;", "-3", report 0 11 2 12 14 0) ∷
+    ("n, remainder", "$Rem,-7,2;", "-1", report 0 10 2 11 13 0) ∷
+    ("a plus sign", "$+,+2,1;", "3", report 0 8 1 9 11 0) ∷
+    ("9 and 10", "$+,4,5;$+,5,5;", "910", report 0 14 3 15 10 0) ∷
+    ("a second operand 0 of - and *", "$-,1,0;$*,1,0;", "10", report 0 14 2 15 10 0) ∷
+    ("22", "$+,x,1;", "", report 22 7 0 7 10 0) ∷
+    ("22, two signs", "$+,++1,1;", "", report 22 9 0 9 12 0) ∷
+    ("22, a space", "$+, 1,1;", "", report 22 8 0 8 11 0) ∷
+    ("22 below the range", "$+,-2147483649,0;", "", report 22 17 0 17 20 0) ∷
+    ("23", "$Quot,1,0;", "", report 23 10 0 10 13 0) ∷
+    ("23 of Rem", "$Rem,1,0;", "", report 23 9 0 9 12 0) ∷
+    ("24 of Quot", "$Quot,-2147483648,-1;", "", report 24 21 0 21 24 0) ∷
+    ("24 of *", "$*,65536,65536;", "", report 24 15 0 15 18 0) ∷
+    ("24 below the range", "$-,-2147483648,1;", "", report 24 17 0 17 20 0) ∷
+    -- the other faults; those in an argument or a list drop no definition of it
+    ("10 in an argument", "$DEF,k,<x;>;$j$DEF,m,z;,$k;;", "", report 10 27 0 29 26 2) ∷
+    ("o, 11", "$a,~1;", "", report 11 4 0 4 6 0) ∷
+    ("11, no digit behind it", "$j$DEF,m,z;,~x;", "", report 11 13 0 13 17 1) ∷
+    ("12, no digit", "$DEF,k,<~a>;$k;", "", report 12 15 0 16 13 1) ∷
+    ("12 at the end of a body, in an argument", "$DEF,k,<~>;$j$DEF,m,z;$k;;", "", report 12 25 0 26 23 2) ∷
+    ("13 at ~", "$DEF,k,<~2>;$k,a;", "", report 13 17 0 18 15 1) ∷
+    ("13 at ~ in an argument", "$DEF,k,<~2>;$j$DEF,m,z;$k,a;;", "", report 13 28 0 29 26 2) ∷
+    ("14 drops no definition", "$DEF,k,<$j,$DEF,m,z;>;$k;", "", report 14 25 0 38 41 2) ∷
+    ("o, 15", "$j;", "", report 15 3 0 3 6 0) ∷
+    ("15 drops no definition", "$q,$DEF,m,z;;", "", report 15 13 0 13 18 1) ∷
+    ("16", "$a>", "", report 16 3 0 3 5 0) ∷
+    ("16 drops no definition", "$a$DEF,m,z;>", "", report 16 12 0 12 17 1) ∷
+    ("17", "a<b", "ab", report 17 3 2 4 0 0) ∷
+    ("17 before 18", "$a<", "", report 17 3 0 4 5 0) ∷
+    ("17 drops no definition", "$a$DEF,m,z;<", "", report 17 12 0 13 17 1) ∷
+    ("18", "$a,b", "", report 18 4 0 5 7 0) ∷
+    ("18 drops no definition", "$a$DEF,m,z;", "", report 18 11 0 12 17 1) ∷
+    -- charge
+    ("$ alone", "$", "", report 18 1 0 2 4 0) ∷
+    ("a parameter is charged whole", "$DEF,k,<$j~1>;$k,abc;", "", report 14 21 0 25 27 1) ∷
+    ("a result is charged beside its list and `;`", "$DEF,k,<abcdefgh>;$DEF,j,<~1>;$j,$VAL,k;;", "abcdefgh", report 0 41 8 44 44 2) ∷
+    ("a result of arithmetic, alike", "$DEF,j,<~1>;$j,$+,1000000,1;;", "1000001", report 0 29 7 32 36 1) ∷
+    ("a definition of a body stays charged", "$DEF,mk,<$DEF,m,z;>;$mk;$m,0123456789abcdef;", "z", report 0 44 1 57 44 2) ∷
     []
+
+-- two texts are equal; not by the definitions' own test, which is tried here
+abbrev equal : Bytes → Bytes → Bool
+equal [] [] = true
+equal [] (y ∷ ys) = false
+equal (x ∷ xs) [] = false
+equal (x ∷ xs) (y ∷ ys) = eqb x y && equal xs ys
 
 abbrev sameReport : Reported → Reported → Bool
 sameReport a b =
@@ -84,7 +148,7 @@ sameReport a b =
     && (eqb (a .scans) (b .scans) && (eqb (a .most) (b .most) && eqb (a .live) (b .live)))))
 
 abbrev ends : End → Bytes → Reported → Bool
-ends e output report = same (e .output) output && sameReport (reported e) report
+ends e output report = equal (e .output) output && sameReport (reported e) report
 
 -- what the program lends
 abbrev ran : Bytes → End
@@ -113,34 +177,155 @@ pub cases-by-substitution : (failing bySubstitution starred ≡ []) × (failing 
 unfolding substituted eval within same newest altered live among deed argumentsPrice definitionsPrice meaning operand digitsFrom digitsOf
 cases-by-substitution = (refl, refl)
 
--- the ends that substitution does not have: case a with 15 cells, case b with no allowance and with an allowance of 1, three
--- bytes where two are lent, and sizes over the limits
-abbrev limited : ℕ → ℕ → String → End
-limited cells allowance t = run (limitsOf cells 65536) standard allowance (ascii t) builtIns
+-- Definitions that are left, by name, value and room, newest first -----------------------------------------------------------
 
-pub case-a-fifteen-cells : reported (limited 15 10000000 "$DEF,k,<p~1>;$k,7;") ≡ record { outcome = 4; read = 18; written = 0; scans = 18; most = 15; live = 1 }
+-- the script, and what it leaves before the built-ins
+abbrev Left : Type 0
+Left = String × List Definition
+
+abbrev stands : String → String → ℕ → Definition
+stands n v room = record { name = ascii n; content = macro (record { value = ascii v; room = room }) }
+
+abbrev updated : Left
+updated = ("$DEF,k,abc;$DEF,j,<~1>;$UPDATE,k,xy;", stands "j" "~1" 2 ∷ stands "k" "xy" 3 ∷ [])
+
+abbrev listAndBody : Left
+listAndBody = ("$DEF,mk,<$DEF,~1,z~2;$DEF,o,;>;$mk,m$DEF,n,y;,w$DEF,m,v;;", stands "o" "" 0 ∷ stands "m" "zw" 2 ∷ stands "mk" "$DEF,~1,z~2;$DEF,o,;" 20 ∷ [])
+
+abbrev beforeRefusal : Left
+beforeRefusal = ("$DEF,k,ab;$q,$DEF,m,z;;", stands "m" "z" 1 ∷ stands "k" "ab" 2 ∷ [])
+
+abbrev leftBy : Option End → Option (List Definition)
+leftBy none = none
+leftBy (some e) = some (e .definitions)
+
+abbrev LeftByScanning : Left → Type 0
+LeftByScanning c = ran (ascii (c .0)) .definitions ≡ c .1 ++ builtIns
+
+abbrev LeftBySubstitution : Left → Type 0
+LeftBySubstitution c = leftBy (substituted standard 100 (ascii (c .0)) builtIns) ≡ some (c .1 ++ builtIns)
+
+pub left-by-scanning : LeftByScanning updated × LeftByScanning listAndBody × LeftByScanning beforeRefusal
 unfolding run scan scans same newest altered live among deed argumentsPrice definitionsPrice callsCharge bodiesCharge reading meaning
-case-a-fifteen-cells = refl
+left-by-scanning = (refl, refl, refl)
 
-pub case-b-no-allowance : reported (limited 16384 0 "") ≡ record { outcome = 3; read = 0; written = 0; scans = 0; most = 0; live = 0 }
-unfolding run scan scans live definitionsPrice
-case-b-no-allowance = refl
+pub left-by-substitution : LeftBySubstitution updated × LeftBySubstitution listAndBody × LeftBySubstitution beforeRefusal
+unfolding substituted eval within same newest altered live among deed argumentsPrice definitionsPrice meaning
+left-by-substitution = (refl, refl, refl)
 
-pub case-b-one-scan : reported (limited 16384 1 "") ≡ record { outcome = 0; read = 0; written = 0; scans = 1; most = 0; live = 0 }
-unfolding run scan scans live definitionsPrice
-case-b-one-scan = refl
+-- A run that starts with a definition: it is charged at once ----------------------------------------------------------------
 
-pub output-full : reported (run (limitsOf 16384 2) standard 10000000 (ascii "abc") builtIns) ≡ record { outcome = 5; read = 3; written = 2; scans = 3; most = 0; live = 0 }
-unfolding run scan scans live definitionsPrice callsCharge bodiesCharge reading meaning
-output-full = refl
+abbrev oneDefined : List Definition
+oneDefined = stands "k" "ab" 2 ∷ builtIns
 
+abbrev reportOf : Option End → Option Reported
+reportOf none = none
+reportOf (some e) = some (reported e)
+
+pub started-by-scanning :
+    (reported (run noLimits standard 100 [] oneDefined) ≡ report 0 0 0 1 7 1)
+    × (reported (run noLimits standard 100 (ascii "$k;") oneDefined) ≡ report 0 3 2 7 13 1)
+unfolding run scan scans same newest live among deed argumentsPrice definitionsPrice callsCharge bodiesCharge reading meaning
+started-by-scanning = (refl, refl)
+
+pub started-by-substitution :
+    (reportOf (substituted standard 100 [] oneDefined) ≡ some (report 0 0 0 1 7 1))
+    × (reportOf (substituted standard 100 (ascii "$k;") oneDefined) ≡ some (report 0 3 2 7 13 1))
+unfolding substituted eval within same newest live among deed argumentsPrice definitionsPrice meaning
+started-by-substitution = (refl, refl)
+
+-- The bytes that may follow `~` in a body, with the parameter that each stands for -----------------------------------------
+
+abbrev withNumber : ℕ → Option ℕ → List (ℕ × ℕ) → List (ℕ × ℕ)
+withNumber b none r = r
+withNumber b (some k) r = (b, k) ∷ r
+
+-- those of n bytes from b on
+abbrev numbered : ℕ → ℕ → List (ℕ × ℕ)
+numbered b zero = []
+numbered b (suc n) = withNumber b (parameterNumber b) (numbered (suc b) n)
+
+pub parameter-bytes : numbered 0 256 ≡ (48, 0) ∷ (49, 1) ∷ (50, 2) ∷ (51, 3) ∷ (52, 4) ∷ (53, 5) ∷ (54, 6) ∷ (55, 7) ∷ (56, 8) ∷ (57, 9) ∷ []
+parameter-bytes = refl
+
+-- The numbers that are ends -------------------------------------------------------------------------------------------------
+
+-- those of n numbers from b on that pass a test
+abbrev passing : (ℕ → Bool) → ℕ → ℕ → List ℕ
+passing test b zero = []
+passing test b (suc n) = let r = passing test (suc b) n in cond (test b) (b ∷ r) r
+
+pub numbers-that-finish : passing Outcomes.finishes 0 100 ≡ 0 ∷ 1 ∷ []
+numbers-that-finish = refl
+
+pub numbers-of-faults : passing Outcomes.faultOfText 0 100 ≡ 10 ∷ 11 ∷ 12 ∷ 13 ∷ 14 ∷ 15 ∷ 16 ∷ 17 ∷ 18 ∷ 19 ∷ 20 ∷ 21 ∷ 22 ∷ 23 ∷ 24 ∷ []
+numbers-of-faults = refl
+
+pub numbers-of-ends : passing Outcomes.endOfText 0 100 ≡ 0 ∷ 1 ∷ 10 ∷ 11 ∷ 12 ∷ 13 ∷ 14 ∷ 15 ∷ 16 ∷ 17 ∷ 18 ∷ 19 ∷ 20 ∷ 21 ∷ 22 ∷ 23 ∷ 24 ∷ []
+numbers-of-ends = refl
+
+-- What is lent --------------------------------------------------------------------------------------------------------------
+
+-- a name, the cells lent, the output lent, the allowance, the script, the output as it is left and the report; cells hold
+-- something before and zero afterwards
+abbrev Lending : Type 0
+Lending = String × ℕ × String × ℕ × String × String × Reported
+
+abbrev lending : List Lending
+lending =
+    ("a, 15 cells", 15, "wxyz", 100, "$DEF,k,<p~1>;$k,7;", "wxyz", report 4 18 0 18 15 1) ∷
+    ("a, 16 cells, and the freed ones again", 16, "wxyz", 100, "$DEF,k,<p~1>;$k,7;$k,7;", "p7p7", report 0 23 4 30 16 1) ∷
+    ("a, 21 scans", 20, "wx", 21, "$DEF,k,<p~1>;$k,7;", "p7", report 3 18 2 21 16 1) ∷
+    ("a, 22 scans", 20, "wx", 22, "$DEF,k,<p~1>;$k,7;", "p7", report 0 18 2 22 16 1) ∷
+    ("b, nothing lent", 0, "", 0, "", "", report 3 0 0 0 0 0) ∷
+    ("b, one scan", 0, "", 1, "", "", report 0 0 0 1 0 0) ∷
+    ("e, the output so far", 8, "wxyz", 100, "ab>c", "abyz", report 1 3 2 3 0 0) ∷
+    ("3 in a loop", 200, "w", 100, "$DEF,r,<$r;>;$r;", "w", report 3 16 0 100 182 1) ∷
+    ("4 at `$`", 3, "wxyz", 100, "ab$k;", "abyz", report 4 3 2 3 0 0) ∷
+    ("4 at a collected byte", 6, "wxyz", 100, "$DEF,k,v;", "wxyz", report 4 4 0 4 6 0) ∷
+    ("4 at a comma", 7, "wxyz", 100, "$DEF,k,v;", "wxyz", report 4 5 0 5 7 0) ∷
+    ("4 at `;`", 11, "wxyz", 100, "$DEF,k,v;", "wxyz", report 4 9 0 9 11 0) ∷
+    ("4 before 15", 5, "wx", 100, "$j;", "wx", report 4 3 0 3 5 0) ∷
+    ("15 in the last cell", 6, "wx", 100, "a$j;", "ax", report 15 4 1 4 6 0) ∷
+    ("4 at a collected parameter", 27, "wx", 100, "$DEF,k,<$j~1;>;$k,abc;", "wx", report 4 22 0 25 25 1) ∷
+    ("4 at a collected result, its `;` allowed", 26, "wx", 100, "$DEF,k,abc;$j,$VAL,k;;", "wx", report 4 21 0 21 24 1) ∷
+    ("4 in a deep call", 100, "w", 1000, "$DEF,r,<$r;>;$r;", "w", report 4 16 0 59 98 1) ∷
+    ("5 at a byte", 8, "wx", 100, "abc", "ab", report 5 3 2 3 0 0) ∷
+    ("5 at a parameter, whole or not at all", 20, "wx", 100, "a$DEF,k,<~1>;$k,bc;", "ax", report 5 19 1 20 16 1) ∷
+    ("4 before 5", 17, "wx", 100, "$DEF,k,abc;$VAL,k;", "wx", report 4 18 0 18 17 1) ∷
+    ("5 at a result", 18, "wx", 100, "$DEF,k,abc;$VAL,k;", "wx", report 5 18 0 18 18 1) ∷
+    []
+
+abbrev leaves : Returned → ℕ → Bytes → Reported → Bool
+leaves x cells output report = sameReport (x .report) report && (equal (x .lent .cells) (replicate cells 0) && equal (x .lent .output) output)
+
+abbrev lends : ℕ → Bytes → ℕ → Bytes → Given
+lends cells output allowance t = record { table = standard; text = t; definitions = builtIns; lent = lent (replicate cells 7) output; allowance = allowance }
+
+abbrev byLending : Lending → Bool
+byLending c = leaves (expanded (lends (c .1) (ascii (c .2)) (c .3) (ascii (c .4)))) (c .1) (ascii (c .5)) (c .6)
+
+-- the names of those that leave something else
+abbrev failingLending : List Lending → List String
+failingLending [] = []
+failingLending (c ∷ cs) = let r = failingLending cs in cond (byLending c) r (c .0 ∷ r)
+
+pub lendings : failingLending lending ≡ []
+unfolding expanded refusedBy cleared run scan scans same newest altered live among deed argumentsPrice definitionsPrice callsCharge bodiesCharge reading meaning
+lendings = refl
+
+-- sizes at the limits and over them
 pub sizes-at-the-limits : sizesTooLarge 65536 65536 65536 ≡ false
 sizes-at-the-limits = refl
 
 pub sizes-over-a-limit : (sizesTooLarge 65537 0 0 ≡ true) × (sizesTooLarge 0 65537 0 ≡ true) × (sizesTooLarge 0 0 65537 ≡ true)
 sizes-over-a-limit = (refl, refl, refl)
 
+-- each of the three is measured
+pub sizes-measured : (g : Given) → tooLarge g ≡ sizesTooLarge (length (g .text)) (length (g .lent .cells)) (length (g .lent .output))
+sizes-measured g = refl
+
 pub too-large : (g : Given) → tooLarge g ≡ true
-    → expanded g ≡ record { report = record { outcome = 2; read = 0; written = 0; scans = 0; most = 0; live = 0 }; lent = g .lent }
+    → expanded g ≡ record { report = report 2 0 0 0 0 0; lent = g .lent }
 unfolding expanded refusedBy
 too-large g h = ap (λ (x : Bool). answered (cond x (some Outcomes.tooLarge) none) g) h

@@ -7,9 +7,13 @@ use language::Sizes;
 const MARGIN: usize = 32;
 
 // The most that a trial lends: one more than the expander takes.
-const MOST: usize = Sizes::TEXT_LIMIT + 1;
+const MOST_CELLS: usize = Sizes::CELLS_LIMIT + 1;
 
-const ROOM: usize = MOST + 2 * MARGIN;
+const MOST_OUTPUT: usize = Sizes::OUTPUT_LIMIT + 1;
+
+const CELLS_ROOM: usize = MOST_CELLS + 2 * MARGIN;
+
+const OUTPUT_ROOM: usize = MOST_OUTPUT + 2 * MARGIN;
 
 // What a trial lends.
 pub(crate) struct Lent {
@@ -20,8 +24,8 @@ pub(crate) struct Lent {
 
 // Whether a run gives this report and this output, and leaves all lent memory and what lies around it as it should.
 pub(crate) fn is_right(text: &[u8], lent: Lent, report: Report, output: &[u8]) -> bool {
-    let mut cells = [0u32; ROOM];
-    let mut bytes = [0u8; ROOM];
+    let mut cells = [0u32; CELLS_ROOM];
+    let mut bytes = [0u8; OUTPUT_ROOM];
     let got = run(text, lent, &mut cells, &mut bytes);
     if !is_same(got, report) {
         return false;
@@ -29,7 +33,7 @@ pub(crate) fn is_right(text: &[u8], lent: Lent, report: Report, output: &[u8]) -
     if report.written != output.len() as u64 {
         return false;
     }
-    let mut before = [0u8; ROOM];
+    let mut before = [0u8; OUTPUT_ROOM];
     pattern::fill_bytes(&mut before);
     if !output_is_right(&bytes, output, &before) {
         return false;
@@ -41,10 +45,10 @@ pub(crate) fn is_right(text: &[u8], lent: Lent, report: Report, output: &[u8]) -
 fn run(text: &[u8], lent: Lent, cells: &mut [u32], bytes: &mut [u8]) -> Report {
     pattern::fill_cells(cells);
     pattern::fill_bytes(bytes);
-    if lent.cells > MOST {
+    if lent.cells > MOST_CELLS {
         return nothing();
     }
-    if lent.output > MOST {
+    if lent.output > MOST_OUTPUT {
         return nothing();
     }
     let cells_end = MARGIN + lent.cells;
@@ -108,7 +112,7 @@ fn cells_are_right(cells: &[u32], lent: usize, outcome: u64) -> bool {
     if outcome == 2 {
         return pattern::has_cells(cells, 0, cells.len());
     }
-    if lent > MOST {
+    if lent > MOST_CELLS {
         return false;
     }
     let end = MARGIN + lent;

@@ -10,7 +10,7 @@ use libc::STDOUT_FILENO;
 
 fn main() {
     try_file();
-    let text = [b'x'; sizes::MOST];
+    let text = [b'x'; sizes::LONGEST];
     let wrong = sizes::try_all(&text);
     count(sizes::RUNS, b" sizes, ", wrong);
 }

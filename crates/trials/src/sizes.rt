@@ -4,10 +4,10 @@ use crate::lending::Lent;
 use expander::Report;
 use language::Sizes;
 use libc::STDOUT_FILENO;
+ghost use Prim.Native.Nat.{_<_};
 
-const LIMIT: usize = Sizes::TEXT_LIMIT;
-
-pub(crate) const MOST: usize = LIMIT + 1;
+// The longest text that is tried: one byte more than may be lent.
+pub(crate) const LONGEST: usize = Sizes::TEXT_LIMIT + 1;
 
 pub(crate) const RUNS: usize = 125;
 
@@ -15,20 +15,26 @@ pub(crate) const RUNS: usize = 125;
 pub(crate) fn try_all(text: &[u8]) -> usize {
     let mut wrong = 0;
     for run in 0..RUNS {
-        if !is_right(text, size(run / 25), size(run / 5 % 5), size(run % 5)) {
+        let len = size(run / 25, Sizes::TEXT_LIMIT);
+        let cells = size(run / 5 % 5, Sizes::CELLS_LIMIT);
+        let output = size(run % 5, Sizes::OUTPUT_LIMIT);
+        if !is_right(text, len, cells, output) {
             wrong += 1;
         }
     }
     wrong
 }
 
-fn size(number: usize) -> usize {
+// None, one, one less than the limit, the limit and one more.
+fn size(number: usize, limit: usize) -> usize
+    requires { ⌜ (0 < limit) × (limit < 4294967296) ⌝ }
+{
     match number {
         0 => 0,
         1 => 1,
-        2 => LIMIT - 1,
-        3 => LIMIT,
-        _ => MOST,
+        2 => limit - 1,
+        3 => limit,
+        _ => limit + 1,
     }
 }
 
@@ -62,7 +68,7 @@ fn name(len: usize, cells: usize, output: usize) {
 
 // The report of plain bytes: they are copied, one a scan, and the end of the text is one scan more.
 fn expected(len: usize, cells: usize, output: usize) -> Report {
-    if len > LIMIT || cells > LIMIT || output > LIMIT {
+    if len > Sizes::TEXT_LIMIT || cells > Sizes::CELLS_LIMIT || output > Sizes::OUTPUT_LIMIT {
         return report(2, 0, 0, 0);
     }
     if len > output {
