@@ -2,31 +2,36 @@
 use Prim.Native.Nat.{ℕ, zero, suc, _+_, _-_, _≤_, min, zero-le}
 use native.Mathlib.Omega.{arith}
 use mathlib.Core.Path.{_≡_, refl, sym, ap, subst, _∙_}
-use mathlib.Core.Bool.{Bool, true, false, true≢false, _||_}
+use mathlib.Core.Bool.{Bool, true, false, true≢false, cond, _||_}
 use mathlib.Core.List.{List, [], _∷_, _++_}
 use mathlib.Core.Option.{none}
 use lib.ListN.{length, drop}
-use lib.Dec.{ltb}
+use lib.Dec.{eqb, leb, ltb}
 use borrow.Author.Tests.{ltb-false}
 use Rattle.memory.specs.Block.{zeros}
-use Rattle.language.specs.Signs.{Bytes, Table}
+use Rattle.language.specs.Signs.{Bytes, Table, textLimit, cellsLimit, outputLimit}
 use Rattle.language.specs.Outcomes
-use Rattle.language.specs.Definitions.{live}
+use Rattle.language.specs.Definitions.{Definition, live}
 use Rattle.language.specs.BuiltIns.{builtIns}
+use Rattle.language.specs.Charge.{definitionsPrice}
+use Rattle.language.specs.Ends.{End, reported}
 use Rattle.language.specs.Octets.{Octets}
-use Rattle.language.specs.Scanning.{Step, next, stop}
+use Rattle.language.specs.Scanning.{Standing, Step, next, stop, endWith}
 use Rattle.language.specs.Scanning as S
-use Rattle.language.specs.Expansion.{Lent, lent, Given, Returned, tooLarge, refusals, refusedBy, cleared, limitsOf, ending, expanded}
-use Rattle.language.specs.Demand.{Substitutes, Expanded}
+use Rattle.language.specs.Expansion.{Lent, lent, Given, Returned, tooLarge, refusals, refusedBy, cleared, overwritten, limitsOf, ending, expanded}
+use Rattle.language.specs.Demand.{Demand3, Substitutes, Expanded}
 use Rattle.language.proofs.Octets.{octets-start, built-ins-octets}
-use Rattle.language.proofs.Demand.{builtIns-free, substitutes}
+use Rattle.language.proofs.Demand.{builtIns-free, demand3, substitutes}
 use Rattle.machine.specs.declared.run.Stepped.{Stepped}
 use Rattle.machine.specs.Machine.{fresh, lastScan}
-use Rattle.machine.specs.Items.{Item, defined, listed, encode, definitionsOf, count}
-use Rattle.machine.specs.Frames.{items, laid, lefts, calls, bodies, Valid}
+use Rattle.machine.specs.Walks.{nextPosition, nextList}
+use Rattle.machine.specs.Items.{encode, definitionsOf}
+use Rattle.machine.specs.Frames.{laid, lefts, calls, bodies, Valid}
+use Rattle.machine.specs.Held.{definitionAt, definitionsHeldFrom, shown, standingOf, Shows}
 use Rattle.machine.specs.Moving.{Holds, Comes, Moves}
 use Rattle.machine.proofs.Advancing.{range-in}
-use Rattle.expander.specs.Reports.{given, returned, refusedWith, reportOf, Brought}
+use Rattle.machine.proofs.Showing.{stateShown}
+use Rattle.expander.specs.Reports.{given, numbers, returned, refusedWith, outcomeOf, reportOf, cameTo, Ran}
 
 -- The fresh standing -------------------------------------------------------------------------------------------------
 
@@ -37,14 +42,14 @@ past (x ∷ l) zero h = absurd (omega arith)
 past (x ∷ l) (suc k) h = past l k (omega arith)
 
 -- it holds the state from which a run starts
-pub freshHolds : (text : Bytes) (m : Lent) → length (m .cells) ≤ 65536 → Octets text
+pub freshHolds : (text : Bytes) (m : Lent) → length (m .cells) ≤ cellsLimit → Octets text
     → Holds text (m .output) (fresh (length (m .cells))) m (S.start text builtIns)
 unfolding laid lefts calls bodies Valid encode definitionsOf
 freshHolds text m small oct = record {
   represents = record {
     frames = [];
     valid = tt;
-    shows = record {
+    lies = record {
       stands = record { size = refl; right = omega arith; cells = past (m .cells) (length (m .cells)) (omega arith); definitions = refl; live = refl };
       wrote = record { written = refl; output = refl; enough = zero-le };
       read = refl;
@@ -82,33 +87,66 @@ freshHolds text m small oct = record {
 
 -- The end of the run -------------------------------------------------------------------------------------------------
 
-pub brought : (T : Table) (text : Bytes) (allowance : ℕ) (m : Lent) (st : Stepped) (m′ : Lent)
-    → Moves T text allowance (fresh (length (m .cells))) m st m′ → length (m .cells) ≤ 65536 → Octets text → allowance ≤ lastScan
-    → Brought (m .output) st m′ (ending (given T text m allowance))
+-- a built-in is not counted, and every definition in the cells is
+heldLive : (turns : ℕ) (l : List ℕ) (p list : ℕ) → live (definitionsHeldFrom turns l p list ++ builtIns) ≡ length (definitionsHeldFrom turns l p list)
+unfolding definitionsHeldFrom live
+heldLive zero l p list = refl
+heldLive (suc turns) l p list = go (leb (length l) p) (eqb p list) (heldLive turns l (nextPosition l p list) (nextList l p list))
+  where
+    r : List Definition
+    r = definitionsHeldFrom turns l (nextPosition l p list) (nextList l p list)
+
+    go : (x y : Bool) → live (r ++ builtIns) ≡ length r
+        → live (cond x [] (cond y r (definitionAt l p ∷ r)) ++ builtIns) ≡ length (cond x [] (cond y r (definitionAt l p ∷ r)))
+    go true y h = refl
+    go false true h = h
+    go false false h = omega (arith, h)
+
+-- a run that shows the standing of its end has come to it
+module _ (g : Given) (st : Stepped) (m : Lent) (from : g .definitions ≡ builtIns) (outcome : outcomeOf (st .answer) ≡ ending g .outcome)
+    (h : Shows builtIns (g .lent .output) (st .run) m (standingOf (ending g))) where
+  came : cameTo st m ≡ ending g
+  came = ap (λ (k : ℕ). endWith k (shown builtIns (st .run) m)) outcome ∙ ap (endWith (ending g .outcome)) (h .standing)
+
+  alive : st .run .counts .live ≡ live (ending g .definitions)
+  alive =
+      let l = m .cells in
+      h .live ∙ sym (heldLive (length l) l (st .run .right) (st .run .source .list)) ∙ ap (λ (w : Standing). live (w .definitions)) (h .standing)
+
+  counted : numbers (reportOf st) ≡ reported (ending g)
+  counted =
+      let w = h .standing in
+      rw (outcome, h .wrote .written, ap (λ (x : Standing). x .read) w, ap (λ (x : Standing). x .scans) w, ap (λ (x : Standing). x .most) w, alive) refl
+
+  free : definitionsPrice (g .definitions) ≤ length (g .lent .cells)
+  free = omega (arith, ap definitionsPrice from, builtIns-free)
+
+  ranTo : Ran g st m
+  ranTo = record {
+    scanned = came;
+    substitutes = subst (Demand3 g) (sym came) (demand3 g free);
+    reports = counted ∙ ap reported (sym came);
+    left = subst (λ (x : End). m .output ≡ overwritten (x .output) (g .lent .output)) (sym came) (h .wrote .output);
+  }
+
+pub ran : (T : Table) (text : Bytes) (allowance : ℕ) (m : Lent) (st : Stepped) (m′ : Lent)
+    → Moves T text allowance (fresh (length (m .cells))) m st m′ → length (m .cells) ≤ cellsLimit → Octets text → allowance ≤ lastScan
+    → Ran (given T text m allowance) st m′
 unfolding S.run
-brought T text allowance m st m′ h small oct fits =
+ran T text allowance m st m′ h small oct fits =
     let x = freshHolds text m small oct in
     let a = h .advanced (range-in _ _ _ (x .inRange)) in
     let all : min allowance (lastScan - 0) ≡ allowance = omega arith in
-    go (S.scans (limitsOf (length (m .cells)) (length (m .output))) T allowance (next (S.start text builtIns)))
-    (rw all at (a .moves (m .output) (S.start text builtIns) x))
+    let r = go (S.scans (limitsOf (length (m .cells)) (length (m .output))) T allowance (next (S.start text builtIns)))
+    (rw all at (a .moves (m .output) (S.start text builtIns) x)) in
+    ranTo (given T text m allowance) st m′ refl (r .0) (r .1)
   where
-    go : (t : Step) → Comes text (m .output) st m′ t → Brought (m .output) st m′ (S.endOf t)
-    go (next s) (e, y) = record {
-      outcome = rw e;
-      its = items (length (m′ .cells)) (length builtIns) (y .represents .frames);
-      shows = y .represents .shows;
-    }
-    go (stop e) y = record { outcome = rw (y .answer); its = y .its; shows = y .shows }
+    go : (t : Step) → Comes text (m .output) st m′ t
+        → (outcomeOf (st .answer) ≡ S.endOf t .outcome) × Shows builtIns (m .output) (st .run) m′ (standingOf (S.endOf t))
+    go (next s) (e, y) = (rw e, stateShown (y .represents))
+    go (stop e) y = (rw (y .answer), y .shows)
 
 -- The report ---------------------------------------------------------------------------------------------------------
-
--- built-ins are not counted
-liveIs : (its : List Item) → live (definitionsOf its ++ builtIns) ≡ count its
-unfolding live definitionsOf
-liveIs [] = refl
-liveIs (defined f name value spare ∷ its) = omega (arith, liveIs its)
-liveIs (listed to links reader list ∷ its) = liveIs its
 
 clearedIs : (l : List ℕ) → zeros (length l) ≡ cleared l
 unfolding zeros cleared
@@ -120,16 +158,14 @@ notRefused : (g : Given) → tooLarge g ≡ false → refusedBy refusals g ≡ n
 unfolding refusedBy
 notRefused g e = rw e
 
-pub reports : (g : Given) {st : Stepped} {m : Lent} → g .definitions ≡ builtIns → Brought (g .lent .output) st m (ending g)
-    → length (m .cells) ≡ length (g .lent .cells) → tooLarge g ≡ false
+pub reports : (g : Given) {st : Stepped} {m : Lent} → Ran g st m → length (m .cells) ≡ length (g .lent .cells) → tooLarge g ≡ false
     → returned (reportOf st) (lent (zeros (length (m .cells))) (m .output)) ≡ expanded g
 unfolding expanded
-reports g {st} {m} from h size fits =
-    let e = ending g in
-    let w = h .shows in
+reports g {st} {m} h size fits =
     let zeroed : zeros (length (m .cells)) ≡ cleared (g .lent .cells) = ap zeros size ∙ clearedIs (g .lent .cells) in
-    let alive : st .run .counts .live ≡ live (e .definitions) = w .stands .live ∙ sym (liveIs (h .its)) ∙ sym (ap live (w .stands .definitions)) in
-    rw (notRefused g fits, h .outcome, w .read, w .wrote .written, w .scans, w .most, alive, w .wrote .output, zeroed) refl
+    let told : numbers (reportOf st) ≡ reported (ending g) = h .reports ∙ ap reported (h .scanned) in
+    let left : m .output ≡ overwritten (ending g .output) (g .lent .output) = h .left ∙ ap (λ (x : End). overwritten (x .output) (g .lent .output)) (h .scanned) in
+    rw (notRefused g fits, told, left, zeroed) refl
 
 -- "2: text, cells or output lent over 65,536 long": nothing is touched
 pub refuses : (g : Given) → tooLarge g ≡ true → returned (refusedWith Outcomes.tooLarge) (g .lent) ≡ expanded g
@@ -137,12 +173,12 @@ unfolding expanded refusedBy
 refuses g large = rw large refl
 
 -- what is not too large has few enough cells
-pub cellsFit : (g : Given) → tooLarge g ≡ false → length (g .lent .cells) ≤ 65536
+pub cellsFit : (g : Given) → tooLarge g ≡ false → length (g .lent .cells) ≤ cellsLimit
 cellsFit g fits =
-    go (ltb 65536 (length (g .text))) (ltb 65536 (length (g .lent .cells))) (ltb 65536 (length (g .lent .output))) refl fits
+    go (ltb textLimit (length (g .text))) (ltb cellsLimit (length (g .lent .cells))) (ltb outputLimit (length (g .lent .output))) refl fits
   where
-    go : (t c o : Bool) → ltb 65536 (length (g .lent .cells)) ≡ c → (t || (c || o)) ≡ false → length (g .lent .cells) ≤ 65536
-    go false false o e h = ltb-false 65536 (length (g .lent .cells)) e
+    go : (t c o : Bool) → ltb cellsLimit (length (g .lent .cells)) ≡ c → (t || (c || o)) ≡ false → length (g .lent .cells) ≤ cellsLimit
+    go false false o e h = ltb-false cellsLimit (length (g .lent .cells)) e
     go true c o e h = absurd (true≢false h)
     go false true o e h = absurd (true≢false h)
 

@@ -7,9 +7,9 @@ ghost use mathlib.Core.Path.{_≡_};
 ghost use Prim.Native.Nat.{_≤_};
 ghost use lib.ListN.{length};
 ghost use Rattle.language.specs.Signs.{standard, cellsLimit};
-ghost use Rattle.language.specs.Expansion.{lent, ending};
+ghost use Rattle.language.specs.Expansion.{lent};
 ghost use Rattle.language.specs.Demand.{Expanded};
-ghost use Rattle.expander.specs.Reports.{given, outcomeOf, reportOf, refusedWith, returned, Brought};
+ghost use Rattle.expander.specs.Reports.{given, outcomeOf, reportOf, refusedWith, returned, Ran};
 
 // What a run reports, in document 01's order: for Rattle and for C.
 #[repr(C)]
@@ -54,7 +54,8 @@ pub extern "C" fn gpm_expand(
     expand(text, cells, output, allowance)
 }
 
-// Scans until the run ends or the allowance is used. The cells then hold the definitions that stand.
+// Scans until the run ends or the allowance is used. The cells then hold the definitions that stand: demand 3 is whole here,
+// before they are cleared.
 fn run_to_end(
     kinds: &[u8; 256],
     text: &[u8],
@@ -63,7 +64,7 @@ fn run_to_end(
     allowance: u64,
 ) -> Stepped
     requires { ⌜ length (now cells) ≤ cellsLimit ⌝ }
-    ensures { λ r. ⌜ Brought (now (output .entry)) r (lent (now (cells .exit)) (now (output .exit))) (ending (given (now (kinds .entry)) (now (text .entry)) (lent (now (cells .entry)) (now (output .entry))) allowance)) ⌝ }
+    ensures { λ r. ⌜ Ran (given (now (kinds .entry)) (now (text .entry)) (lent (now (cells .entry)) (now (output .entry))) allowance) r (lent (now (cells .exit)) (now (output .exit))) ⌝ }
 {
     let run = Run::new(cells.len());
     machine::go_on(run, kinds, text, cells, output, allowance)

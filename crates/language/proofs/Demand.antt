@@ -3,38 +3,44 @@ use Prim.Native.Nat.{ℕ, _≤_}
 use native.Mathlib.Omega.{arith}
 use mathlib.Core.Path.{_≡_, refl, sym, ap, subst}
 use mathlib.Core.Bool.{Bool, true, false, cond}
-use mathlib.Core.List.{List}
 use mathlib.Core.Option.{Option, none, some}
 use lib.ListN.{length}
 use lib.Dec.{T as So}
-use Rattle.language.specs.Signs.{Bytes, Table}
+use Rattle.language.specs.Signs.{Table}
 use Rattle.language.specs.Outcomes
 use Rattle.language.specs.Outcomes.{endOfText}
-use Rattle.language.specs.Definitions.{Definition}
 use Rattle.language.specs.BuiltIns.{builtIns}
 use Rattle.language.specs.Charge.{definitionsPrice}
 use Rattle.language.specs.Ends.{End, reported}
-use Rattle.language.specs.Scanning.{run}
-use Rattle.language.specs.Expansion.{Given, limitsOf, tooLarge, refusals, refusedBy, returnedBy, answered, ending, expanded}
+use Rattle.language.specs.Expansion.{Given, tooLarge, refusals, refusedBy, returnedBy, answered, ending, expanded}
 use Rattle.language.specs.Demand.{Affords, Demand3, Substitutes}
 use Rattle.language.proofs.Agree.{agreement}
 use Rattle.language.proofs.Limits.{within-lent, ended-alike, fitting-run, unlimited-ends}
 
-module _ (T : Table) (text : Bytes) (ds : List Definition) (c o n : ℕ) where
-  afforded : definitionsPrice ds ≤ c → (e : End) → run (limitsOf c o) T n text ds ≡ e → So (endOfText (e .outcome)) → Affords T text ds c o n e
-  afforded h e p q =
-      let q′ : So (endOfText (run (limitsOf c o) T n text ds .outcome)) = subst (λ (x : End). So (endOfText (x .outcome))) (sym p) q in
-      let d = agreement T text ds (run (limitsOf c o) T n text ds) .0 (n, ended-alike T text ds c o n q′) in
-      let w = within-lent T text ds c o n h in
-      subst (Affords T text ds c o n) p (record { depth = d .0; comes = d .1; enoughCells = w .cells; enoughOutput = w .output; enoughScans = w .scans })
+module _ (g : Given) where
+  abbrev T : Table
+  T = g .table
 
-  ends : (e : End) → Affords T text ds c o n e → (run (limitsOf c o) T n text ds ≡ e) × So (endOfText (e .outcome))
+  abbrev c : ℕ
+  c = length (g .lent .cells)
+
+  abbrev o : ℕ
+  o = length (g .lent .output)
+
+  afforded : definitionsPrice (g .definitions) ≤ c → (e : End) → ending g ≡ e → So (endOfText (e .outcome)) → Affords g e
+  afforded h e p q =
+      let q′ : So (endOfText (ending g .outcome)) = subst (λ (x : End). So (endOfText (x .outcome))) (sym p) q in
+      let d = agreement T (g .text) (g .definitions) (ending g) .0 (g .allowance, ended-alike T (g .text) (g .definitions) c o (g .allowance) q′) in
+      let w = within-lent T (g .text) (g .definitions) c o (g .allowance) h in
+      subst (Affords g) p (record { depth = d .0; comes = d .1; enoughCells = w .cells; enoughOutput = w .output; enoughScans = w .scans })
+
+  ends : (e : End) → Affords g e → (ending g ≡ e) × So (endOfText (e .outcome))
   ends e a =
-      let m = agreement T text ds e .1 (a .depth, a .comes) in
-      (fitting-run T text ds c o n (m .0) e (m .1) (record { cells = a .enoughCells; output = a .enoughOutput; scans = a .enoughScans }), unlimited-ends T text ds (m .0) e (m .1))
+      let m = agreement T (g .text) (g .definitions) e .1 (a .depth, a .comes) in
+      (fitting-run T (g .text) (g .definitions) c o (g .allowance) (m .0) e (m .1) (record { cells = a .enoughCells; output = a .enoughOutput; scans = a .enoughScans }), unlimited-ends T (g .text) (g .definitions) (m .0) e (m .1))
 
   -- Demand 3, from any definitions that can be afforded
-  pub demand3 : definitionsPrice ds ≤ c → Demand3 T text ds c o n (run (limitsOf c o) T n text ds)
+  pub demand3 : definitionsPrice (g .definitions) ≤ c → Demand3 g (ending g)
   demand3 h e = (λ p. afforded h e (p .0) (p .1), ends e)
 
 -- the built-ins cost nothing
@@ -59,8 +65,8 @@ substitutes g price = go (refusedBy refusals g) refl
     e₀ : End
     e₀ = ending g
 
-    D : Demand3 (g .table) (g .text) (g .definitions) (length (g .lent .cells)) (length (g .lent .output)) (g .allowance) e₀
-    D = demand3 (g .table) (g .text) (g .definitions) (length (g .lent .cells)) (length (g .lent .output)) (g .allowance) price
+    D : Demand3 g e₀
+    D = demand3 g price
 
     go : (r : Option ℕ) → refusedBy refusals g ≡ r → Substitutes g (answered r g)
     go (some k) h = record {

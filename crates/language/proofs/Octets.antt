@@ -2,7 +2,6 @@
 -- starts from are.
 use borrow.Author.Tests.{ltb-true}
 use Prim.Native.Nat.{ℕ, zero, suc, _<_, _+_, _-_, max}
-use Prim.Native.String.{String}
 use native.Mathlib.Omega.{arith}
 use mathlib.Core.Path.{_≡_, refl, sym}
 use mathlib.Core.Logic.{inl, inr}
@@ -14,11 +13,11 @@ use lib.Dec.{ltb, eqb}
 use Rattle.decimal.specs.Arithmetic.{Result, number, refused, calculated}
 use Rattle.decimal.proofs.Bytes.{Each, OfDecimal}
 use Rattle.decimal.proofs.Laws.{shortest-bytes}
-use Rattle.language.specs.Signs.{Bytes, ascii, Table, Meaning, copied, leftOut, opens, separates, applies, fetches, unquotes, meaning, parameterNumber}
+use Rattle.language.specs.Signs.{Bytes, Table, Meaning, copied, leftOut, opens, separates, applies, fetches, unquotes, meaning, parameterNumber}
 use Rattle.language.specs.declared.built_ins.BuiltIn.{BuiltIn}
 use Rattle.language.specs.declared.built_ins.BuiltIn.the-variants.{Def, Val, Update, Arithmetic}
 use Rattle.language.specs.Definitions.{Content, macro, builtIn, Definition, Found, found, missing, same, newest, valued, altered, oldest, among, counts, live}
-use Rattle.language.specs.BuiltIns.{Deed, reads, defines, gives, alters, faulty, named, builtIns, needs, parameter, valueOf, updateOf, resultOf, performed, deedOf, deed}
+use Rattle.language.specs.BuiltIns.{Deed, reads, defines, gives, alters, faulty, builtIns, needs, parameter, valueOf, updateOf, resultOf, performed, deedOf, deed}
 use Rattle.language.specs.Charge.{openPrice, endPrice}
 use Rattle.language.specs.Ends.{End}
 use Rattle.language.specs.Scanning.{Call, Body, Standing, State, Step, next, stop, Limits, listOf}

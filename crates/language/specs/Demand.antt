@@ -1,41 +1,33 @@
 -- Demand 3, as a statement about whole runs.
 use Prim.Native.Nat.{ℕ, _≤_}
 use mathlib.Core.Path.{_≡_}
-use mathlib.Core.List.{List}
 use mathlib.Core.Option.{none, some}
 use mathlib.Core.Logic.{_↔_}
 use lib.ListN.{length}
 use lib.Dec.{T as So}
-use Rattle.language.specs.Signs.{Bytes, Table}
 use Rattle.language.specs.Outcomes.{endOfText}
-use Rattle.language.specs.Definitions.{Definition}
 use Rattle.language.specs.Ends.{End, reported}
 use Rattle.language.specs.Substitution.{substituted}
 use Rattle.language.specs.Expansion.{Given, Returned, refusals, refusedBy, overwritten, expanded}
 
--- Demand 3: substitution of the text comes to the end e at some depth, and what was lent is at least what it counted
-pub record Affords (T : Table) (text : Bytes) (ds : List Definition) (cells output allowance : ℕ) (e : End) : Type 0 where
+-- Substitution of the text comes to the end e at some depth, and what was lent is at least what it counted.
+pub record Affords (g : Given) (e : End) : Type 0 where
   pub depth : ℕ
-  pub comes : substituted T depth text ds ≡ some e
-  pub enoughCells : e .most ≤ cells
-  pub enoughOutput : length (e .output) ≤ output
-  pub enoughScans : e .scans ≤ allowance
+  pub comes : substituted (g .table) depth (g .text) (g .definitions) ≡ some e
+  pub enoughCells : e .most ≤ length (g .lent .cells)
+  pub enoughOutput : length (e .output) ≤ length (g .lent .output)
+  pub enoughScans : e .scans ≤ g .allowance
 
--- what a call is given affords the end e
-abbrev pub AffordsIn : Given → End → Type 0
-AffordsIn g e = Affords (g .table) (g .text) (g .definitions) (length (g .lent .cells)) (length (g .lent .output)) (g .allowance) e
+-- Demand 3: what a run came to is an end e that finishes or is a fault of the text, if and only if substitution comes to e and
+-- e can be afforded. e holds outcome, output, counts and standing definitions.
+abbrev pub Demand3 : Given → End → Type 0
+Demand3 g run = (e : End) → ((run ≡ e) × So (endOfText (e .outcome))) ↔ Affords g e
 
--- Demand 3: the end of a run is an end e that finishes or is a fault of the text, if and only if substitution comes to e and
--- e can be afforded; e holds outcome, output, counts and standing definitions
-abbrev pub Demand3 : Table → Bytes → List Definition → ℕ → ℕ → ℕ → End → Type 0
-Demand3 T text ds cells output allowance run =
-    (e : End) → ((run ≡ e) × So (endOfText (e .outcome))) ↔ Affords T text ds cells output allowance e
-
--- the same of what a caller sees of a whole run: the report, and the output as it is left
+-- The same of what a caller sees of a whole run, the cells being cleared: the report, and the output as it is left.
 pub record Substitutes (g : Given) (x : Returned) : Type 0 where
   pub only : So (endOfText (x .report .outcome))
-      → (e : End) × AffordsIn g e × (x .report ≡ reported e) × (x .lent .output ≡ overwritten (e .output) (g .lent .output))
-  pub always : refusedBy refusals g ≡ none → (e : End) → AffordsIn g e
+      → (e : End) × Affords g e × (x .report ≡ reported e) × (x .lent .output ≡ overwritten (e .output) (g .lent .output))
+  pub always : refusedBy refusals g ≡ none → (e : End) → Affords g e
       → So (endOfText (e .outcome)) × (x .report ≡ reported e) × (x .lent .output ≡ overwritten (e .output) (g .lent .output))
 
 -- What a whole run leaves, by both definitions: by scanning it is the run of document 01; by substitution demand 3 holds of it.

@@ -51,17 +51,21 @@ pub data Step : Type 0 where
   next : State → Step
   stop : End → Step
 
+-- an end with this outcome, of what stands
+abbrev pub endWith : ℕ → Standing → End
+endWith outcome w = record {
+  outcome = outcome;
+  output = w .output;
+  read = w .read;
+  scans = w .scans;
+  most = w .most;
+  definitions = w .definitions;
+}
+
 -- "The byte at which a run is refused counts as read, and that scan counts. Live definitions are those standing when the
 -- run ended, before a refused scan."
 abbrev pub ends : ℕ → State → Step
-ends n s = stop (record {
-  outcome = n;
-  output = s .standing .output;
-  read = s .standing .read;
-  scans = s .standing .scans;
-  most = s .standing .most;
-  definitions = s .standing .definitions;
-})
+ends n s = stop (endWith n (s .standing))
 
 -- Parts of a state set anew ------------------------------------------------------------------------------------------
 
@@ -311,14 +315,7 @@ start t ds = record {
 -- 3: "a further scan is due and the allowance has been used"
 abbrev pub endOf : Step → End
 endOf (stop e) = e
-endOf (next s) = record {
-  outcome = Outcomes.noScansLeft;
-  output = s .standing .output;
-  read = s .standing .read;
-  scans = s .standing .scans;
-  most = s .standing .most;
-  definitions = s .standing .definitions;
-}
+endOf (next s) = endWith Outcomes.noScansLeft (s .standing)
 
 -- the run over a text with this allowance of scans
 unfoldable pub run : Limits → Table → ℕ → Bytes → List Definition → End

@@ -135,7 +135,7 @@ module _ (T : Table) (text : Bytes) (n k : ℕ) where
       simulated : Simulates n builtIns text start a (S.scan L T (x .state))
       simulated =
           let h = x .held .represents in
-          let size : length start ≡ k = sym (outputSize (h .shows)) ∙ g .output in
+          let size : length start ≡ k = sym (outputSize (h .lies)) ∙ g .output in
           subst (λ (y : After). Simulates n builtIns text start y (S.scan L T (x .state))) (sym e)
           (subst (λ (j : ℕ). Simulates n builtIns text start (M.step r T text m) (S.scan (limitsOf n j) T (x .state))) size
           (subst (λ (j : ℕ). Simulates j builtIns text start (M.step r T text m) (S.scan (limitsOf j (length start)) T (x .state))) (g .cells)
@@ -170,7 +170,7 @@ module _ (T : Table) (text : Bytes) (n k : ℕ) where
           go (next s) q (goes p h) = absurd (out p)
           go (stop y) q (stops h) =
               let lead : all ≡ stop y = leads (stop y) q ∙ scans-stop L T (until - (r .counts .scans + 1)) y in
-              rw lead (rw (ap (λ (j : After). length (j .lent .cells)) (sym is) ∙ cs) (subst (λ (j : After). EndsAs n builtIns start j y) is h))
+              rw lead (subst (λ (j : After). EndsAs builtIns start j y) is h)
 
     -- one more scan is made
     pub onceMore : a .answer ≡ GoesOn → a .run .counts .scans ≡ r .counts .scans + 1

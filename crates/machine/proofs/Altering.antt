@@ -10,7 +10,7 @@ use lib.Seq.{take-all, take-at, drop-at, drop-drop, drop-append-le, take-append-
 use lib.Dec.{eqb}
 use borrow.Author.Tests.{eq-eqb, ne-eqb, eqb-false}
 use Rattle.language.specs.Signs.{Bytes}
-use Rattle.language.specs.Definitions.{Definition, altered, valued, among, macro}
+use Rattle.language.specs.Definitions.{Definition, altered, valued, among}
 use Rattle.language.specs.Scanning.{reading}
 use Rattle.memory.specs.Block.{placed}
 use Rattle.machine.proofs.Items.{encode-append, width-append, width-cons, definitions-append, count-append}

@@ -26,7 +26,7 @@ use Rattle.machine.proofs.Represents.{chargeIs}
 use Rattle.machine.proofs.Putting.{roomIs}
 use Rattle.machine.specs.Items.{Item, encodeArguments, count, encodeCall, Definitions}
 use Rattle.machine.specs.Frames.{Places, Frame, collects, address, opening, laid, items, places, lefts, calls, bodies, Valid}
-use Rattle.machine.specs.Held.{Shows, Represents, placesOf}
+use Rattle.machine.specs.Held.{Lies, Represents, placesOf}
 use Rattle.machine.proofs.Lists.{cell-is}
 
 -- The run r in the cells l, where the innermost call with this list is ended by its mark and its `;` is charged. `under` are the
@@ -38,7 +38,7 @@ pub record Applied (n : ℕ) (older : List Definition) (whole start : List ℕ) 
   pub hand : Bytes
   pub valid : Valid n (length older) under
   pub definitions : Definitions since
-  pub shows : Shows n older start (since ++ items n (length older) under) r m (s .standing)
+  pub lies : Lies n older start (since ++ items n (length older) under) r m (s .standing)
   pub cellsLent : n ≤ 65536
   pub room : r .calls .left + 1 ≤ r .right
   pub carried : r .charge + r .right ≡ r .calls .left + 1 + n
@@ -93,7 +93,7 @@ appliedOf {n} {older} {whole} {start} {r} {l} {o} {s} free h own e =
     omega (arith, length-append (lefts n b (x .under)) (head ++ encodeArguments (x .ended)), arguments-size (x .ended), framesLeft n b (x .under)) in
     let w = getD l (r .calls .left) 0 in
     let tail : drop (r .calls .left) l ≡ w ∷ drop (r .calls .left + 1) l =
-    drop-cons l (r .calls .left) 0 (omega (arith, h .shows .stands .right, h .shows .stands .size)) ∙ ap (λ (k : ℕ). w ∷ drop k l) (sym (add-one (r .calls .left))) in
+    drop-cons l (r .calls .left) 0 (omega (arith, h .lies .stands .right, h .lies .stands .size)) ∙ ap (λ (k : ℕ). w ∷ drop k l) (sym (add-one (r .calls .left))) in
     let rest = drop (r .calls .left + 1) l in
     let list = x .ended ++ (x .hand ∷ []) in
     let wholeEq : l ≡ before ++ (x .waits ∷ (x .hand ++ (w ∷ rest))) =
@@ -102,7 +102,7 @@ appliedOf {n} {older} {whole} {start} {r} {l} {o} {s} free h own e =
     ∙ ap (λ (t : List ℕ). (lefts n b (x .under) ++ (head ++ (encodeArguments (x .ended) ++ (x .waits ∷ x .hand)))) ++ t) tail
     ∙ regroup (lefts n b (x .under)) head (encodeArguments (x .ended)) (x .waits) (x .hand) (w ∷ rest) in
     let test : ltb (r .calls .hand) (r .calls .left) ≡ true = lt-ltb (r .calls .hand) (r .calls .left) (omega arith) in
-    let counted : cell (r .calls .left - (r .calls .hand + 1)) ≡ length (x .hand) = cell-is (r .calls .left - (r .calls .hand + 1)) (omega (arith, h .cellsLent, h .shows .stands .right)) ∙ omega arith in
+    let counted : cell (r .calls .left - (r .calls .hand + 1)) ≡ length (x .hand) = cell-is (r .calls .left - (r .calls .hand + 1)) (omega (arith, h .cellsLent, h .lies .stands .right)) ∙ omega arith in
     let endEq : M.endArgument r l ≡ before ++ (length (x .hand) ∷ (x .hand ++ (w ∷ rest))) =
     rw (test, counted)
     (ap (λ (t : List ℕ). set t (r .calls .hand) (length (x .hand))) wholeEq
@@ -122,7 +122,7 @@ appliedOf {n} {older} {whole} {start} {r} {l} {o} {s} free h own e =
     ap (drop (r .calls .left + 1)) (markEq ∙ sym (append-assoc ended (mark ∷ []) rest))
     ∙ drop-at (ended ++ (mark ∷ [])) rest (r .calls .left + 1) (omega (arith, length-append ended (mark ∷ []))) in
     let sizeEq : length l′ ≡ n =
-    ap length markEq ∙ omega (arith, length-append ended (mark ∷ rest), length-drop (r .calls .left + 1) l, h .shows .stands .size, h .shows .stands .right) in
+    ap length markEq ∙ omega (arith, length-append ended (mark ∷ rest), length-drop (r .calls .left + 1) l, h .lies .stands .size, h .lies .stands .right) in
     let m = r .right - (r .calls .left + 1) in
     let rightEq : r .calls .left + 1 + m ≡ r .right = omega arith in
     let highEq : drop (r .right) l′ ≡ drop (r .right) l =
@@ -139,19 +139,19 @@ appliedOf {n} {older} {whole} {start} {r} {l} {o} {s} free h own e =
       hand = x .hand;
       valid = v;
       definitions = x .definitions;
-      shows = subst (λ (t : List Item). Shows n older start t (M.charged 1 r) (lent l′ o) ((S.noting (S.charge s + 1) s) .standing)) itemsEq
+      lies = subst (λ (t : List Item). Lies n older start t (M.charged 1 r) (lent l′ o) ((S.noting (S.charge s + 1) s) .standing)) itemsEq
           (record {
             stands = record {
               size = sizeEq;
-              right = h .shows .stands .right;
-              cells = highEq ∙ h .shows .stands .cells;
-              definitions = h .shows .stands .definitions;
-              live = h .shows .stands .live;
+              right = h .lies .stands .right;
+              cells = highEq ∙ h .lies .stands .cells;
+              definitions = h .lies .stands .definitions;
+              live = h .lies .stands .live;
             };
-            read = h .shows .read;
-            scans = h .shows .scans;
-            most = rw (chargeIs free h, h .shows .most);
-            wrote = h .shows .wrote;
+            read = h .lies .read;
+            scans = h .lies .scans;
+            most = rw (chargeIs free h, h .lies .most);
+            wrote = h .lies .wrote;
           });
       cellsLent = h .cellsLent;
       room = fit;

@@ -1,11 +1,10 @@
 -- A byte of a body that is not at its end stands before the body's length, and is below 256.
-use Prim.Native.Nat.{ℕ, _+_, _<_}
+use Prim.Native.Nat.{ℕ, _<_}
 use mathlib.Core.Path.{_≡_, refl, _∙_}
 use mathlib.Core.Bool.{Bool, true, false, cond}
 use mathlib.Core.List.{List}
 use native.Mathlib.Omega.{arith}
 use borrow.Author.Tests.{leb-false}
-use lib.ListN.{getD}
 use lib.Dec.{leb}
 use Rattle.machine.specs.Machine.{bodyByte}
 use Rattle.machine.specs.Walks.{nowhere, valueLength}

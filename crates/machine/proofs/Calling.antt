@@ -79,7 +79,7 @@ module _ {n : ℕ} {older : List Definition} {whole start : List ℕ} {r : Run} 
   underSize = sym (a .callIs ∙ framesLeft n b (a .under))
 
   widths : (width (a .since ++ U) ≡ width (a .since) + width U) × (r .right + (width (a .since) + width U) ≡ n)
-  widths = let w = width-append (a .since) U in (w, omega (arith, a .shows .stands .right))
+  widths = let w = width-append (a .since) U in (w, omega (arith, a .lies .stands .right))
 
   -- the cells of the list, from its head on
   pub argumentsAt : drop (r .calls .call + argumentsFrom) l ≡ encodeArguments list ++ (mark ∷ rest)
@@ -120,7 +120,7 @@ module _ {n : ℕ} {older : List Definition} {whole start : List ℕ} {r : Run} 
       let w = widths in
       let e : r .right + width (a .since) ≡ to = omega (arith, w .1) in
       subst (λ (k : ℕ). definitions l (r .right) k ≡ count (a .since)) e
-      (definitions-count l (r .right) (a .since) (encode U) (a .shows .stands .cells ∙ encode-append (a .since) U) (a .definitions) (omega (arith, w .1, a .shows .stands .size)))
+      (definitions-count l (r .right) (a .since) (encode U) (a .lies .stands .cells ∙ encode-append (a .since) U) (a .definitions) (omega (arith, w .1, a .lies .stands .size)))
 
   -- The body of a definition is read ---------------------------------------------------------------------------------
 
@@ -157,12 +157,12 @@ module _ {n : ℕ} {older : List Definition} {whole start : List ℕ} {r : Run} 
         let w = widths in
         let fit : at′ + (r .calls .left - r .calls .call + 1) ≡ r .right = omega (arith, a .room) in
         let placedEq : moved (r .calls .call) at′ (r .calls .left - r .calls .call + 1) l ≡ take at′ l ++ ((to ∷ p .list ∷ packed (p .hand) (p .call) ∷ body) ++ drop (r .right) l) =
-        moved-in (r .calls .call) at′ (r .calls .left - r .calls .call + 1) l (omega (arith, a .leftIs, a .room, w .1, a .shows .stands .size)) (omega (arith, w .1, a .shows .stands .size))
+        moved-in (r .calls .call) at′ (r .calls .left - r .calls .call + 1) l (omega (arith, a .leftIs, a .room, w .1, a .lies .stands .size)) (omega (arith, w .1, a .lies .stands .size))
         ∙ ap (λ (t : List ℕ). placed at′ t l) blockIs
         ∙ ap (λ (j : ℕ). take at′ l ++ ((to ∷ p .list ∷ packed (p .hand) (p .call) ∷ body) ++ drop j l))
         (let size : at′ + length (to ∷ p .list ∷ packed (p .hand) (p .call) ∷ body) ≡ r .right =
         omega (arith, length-append (encodeArguments list) (mark ∷ []), arguments-size list, a .leftIs) in size) in
-        let lo : length (take at′ l) ≡ at′ = length-take-le at′ l (omega (arith, w .1, a .shows .stands .size)) in
+        let lo : length (take at′ l) ≡ at′ = length-take-le at′ l (omega (arith, w .1, a .lies .stands .size)) in
         let one : length (take at′ l ++ (to ∷ [])) ≡ at′ + 1 = omega (arith, length-append (take at′ l) (to ∷ [])) in
         let two : length (take at′ l ++ (to ∷ packed (listPrice list - listOverhead) (p .list) ∷ [])) ≡ at′ + 2 = omega (arith, length-append (take at′ l) (to ∷ packed (listPrice list - listOverhead) (p .list) ∷ [])) in
         ap (λ (j : ℕ). withLinks (moved (r .calls .call) at′ (r .calls .left - r .calls .call + 1) l) at′ (packed (j - listOverhead) (r .source .list)) (packed (r .source .body) (r .source .offset))) sizeIs
@@ -179,13 +179,13 @@ module _ {n : ℕ} {older : List Definition} {whole start : List ℕ} {r : Run} 
     begun named =
         let w = widths in
         let lw = listWidth in
-        let lo : length (take at′ l) ≡ at′ = length-take-le at′ l (omega (arith, w .1, a .shows .stands .size)) in
+        let lo : length (take at′ l) ≡ at′ = length-take-le at′ l (omega (arith, w .1, a .lies .stands .size)) in
         let stands : length (s .standing .definitions) ≡ b + count (a .since ++ U) =
-        ap length (a .shows .stands .definitions) ∙ omega (arith, length-append (definitionsOf (a .since ++ U)) older) in
+        ap length (a .lies .stands .definitions) ∙ omega (arith, length-append (definitionsOf (a .since ++ U)) older) in
         record {
           frames = reads list (a .since) d k v 0 ∷ a .under;
           valid = (a .valid, a .definitions, at, zero-le, named);
-          shows = record {
+          lies = record {
             stands = record {
               size =
                   omega (
@@ -194,21 +194,21 @@ module _ {n : ℕ} {older : List Definition} {whole start : List ℕ} {r : Run} 
                     length-append (encodeItem I) (drop (r .right) l),
                     list-size to (packed (listPrice list - listOverhead) (p .list)) (packed (p .body) (p .offset)) list,
                     length-drop (r .right) l,
-                    a .shows .stands .size,
+                    a .lies .stands .size,
                     w .1,
                     sizeIs,
                     a .leftIs,
                     a .room,
                   );
               right = omega (arith, lw, at′Is, w .1, sizeIs, a .leftIs, a .room);
-              cells = drop-at (take at′ l) (encodeItem I ++ drop (r .right) l) at′ lo ∙ ap (λ (t : List ℕ). encodeItem I ++ t) (a .shows .stands .cells);
-              definitions = a .shows .stands .definitions;
-              live = a .shows .stands .live;
+              cells = drop-at (take at′ l) (encodeItem I ++ drop (r .right) l) at′ lo ∙ ap (λ (t : List ℕ). encodeItem I ++ t) (a .lies .stands .cells);
+              definitions = a .lies .stands .definitions;
+              live = a .lies .stands .live;
             };
-            wrote = a .shows .wrote;
-            read = a .shows .read;
-            scans = a .shows .scans;
-            most = a .shows .most;
+            wrote = a .lies .wrote;
+            read = a .lies .read;
+            scans = a .lies .scans;
+            most = a .lies .most;
           };
           cellsLent = a .cellsLent;
           ordered = omega (arith, a .leftIs, a .room);
@@ -244,7 +244,7 @@ module _ {n : ℕ} {older : List Definition} {whole start : List ℕ} {r : Run} 
         callsCharge n b (a .under),
         ap S.bodiesCharge (a .bodiesAre),
         rightCharge n b (a .under) (a .valid),
-        ap definitionsPrice (a .shows .stands .definitions),
+        ap definitionsPrice (a .lies .stands .definitions),
         price-append (definitionsOf (a .since ++ U)) older,
         ap definitionsPrice (definitions-append (a .since) U),
         price-append (definitionsOf (a .since)) (definitionsOf U),
@@ -269,10 +269,10 @@ module _ {n : ℕ} {older : List Definition} {whole start : List ℕ} {r : Run} 
         toEq,
         linksEq,
         le-ltb to (q .right) (omega (arith, w .1)),
-        le-ltb (length l) to (omega (arith, a .shows .stands .size)),
+        le-ltb (length l) to (omega (arith, a .lies .stands .size)),
         le-ltb to (q .calls .call + kept) (omega arith),
-        le-ltb (q .counts .live) (count (a .since)) (omega (arith, a .shows .stands .live, count-append (a .since) U)),
-        a .shows .stands .size,
+        le-ltb (q .counts .live) (count (a .since)) (omega (arith, a .lies .stands .live, count-append (a .since) U)),
+        a .lies .stands .size,
       )
 
   -- where the list ends and what stood at its `$` begins
@@ -288,11 +288,11 @@ module _ {n : ℕ} {older : List Definition} {whole start : List ℕ} {r : Run} 
       let e : r .right + width (a .since) ≡ to = omega (arith, w .1) in
       ap (λ (k : ℕ). drop k l) (sym e)
       ∙ sym (drop-drop (width (a .since)) (r .right) l)
-      ∙ ap (drop (width (a .since))) (a .shows .stands .cells ∙ encode-append (a .since) U)
+      ∙ ap (drop (width (a .since))) (a .lies .stands .cells ∙ encode-append (a .since) U)
       ∙ drop-at (encode (a .since)) (encode U) (width (a .since)) refl
 
   pub leftDefinitions : oldest (b + count U) (s .standing .definitions) ≡ definitionsOf U ++ older
-  leftDefinitions = ap (oldest (b + count U)) (a .shows .stands .definitions) ∙ oldest-items (a .since) U older
+  leftDefinitions = ap (oldest (b + count U)) (a .lies .stands .definitions) ∙ oldest-items (a .since) U older
 
   pub placesLeft : record { left = r .calls .call; call = low (packed (p .hand) (p .call)); hand = high (packed (p .hand) (p .call)); list = r .source .list; body = r .source .body; offset = r .source .offset } ≡ p
   placesLeft =
@@ -316,18 +316,18 @@ module _ {n : ℕ} {older : List Definition} {whole start : List ℕ} {r : Run} 
       record {
         frames = fs′;
         valid = v;
-        shows = record {
+        lies = record {
           stands = record {
             size = size;
             right = omega (arith, w .1);
             cells = hi;
             definitions = dd;
-            live = omega (arith, a .shows .stands .live, count-append (a .since) U);
+            live = omega (arith, a .lies .stands .live, count-append (a .since) U);
           };
-          read = a .shows .read;
-          scans = a .shows .scans;
-          most = a .shows .most;
-          wrote = a .shows .wrote;
+          read = a .lies .read;
+          scans = a .lies .scans;
+          most = a .lies .most;
+          wrote = a .lies .wrote;
         };
         cellsLent = a .cellsLent;
         ordered = omega (arith, toAbove, a .leftIs);

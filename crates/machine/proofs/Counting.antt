@@ -21,12 +21,12 @@ module _ {n : ℕ} {older : List Definition} {whole start : List ℕ} {r : Run} 
   quoted q = record {
     frames = h .frames;
     valid = h .valid;
-    shows = record {
-      stands = h .shows .stands;
-      read = h .shows .read;
-      scans = h .shows .scans;
-      most = h .shows .most;
-      wrote = h .shows .wrote;
+    lies = record {
+      stands = h .lies .stands;
+      read = h .lies .read;
+      scans = h .lies .scans;
+      most = h .lies .most;
+      wrote = h .lies .wrote;
     };
     cellsLent = h .cellsLent;
     ordered = h .ordered;
@@ -44,12 +44,12 @@ module _ {n : ℕ} {older : List Definition} {whole start : List ℕ} {r : Run} 
   counted = record {
     frames = h .frames;
     valid = h .valid;
-    shows = record {
-      stands = h .shows .stands;
-      read = omega (arith, h .shows .read);
-      scans = ap (λ (x : ℕ). x + 1) (h .shows .scans);
-      most = h .shows .most;
-      wrote = h .shows .wrote;
+    lies = record {
+      stands = h .lies .stands;
+      read = omega (arith, h .lies .read);
+      scans = ap (λ (x : ℕ). x + 1) (h .lies .scans);
+      most = h .lies .most;
+      wrote = h .lies .wrote;
     };
     cellsLent = h .cellsLent;
     ordered = h .ordered;
@@ -68,12 +68,12 @@ module _ {n : ℕ} {older : List Definition} {whole start : List ℕ} {r : Run} 
   taken x t e = record {
     frames = h .frames;
     valid = h .valid;
-    shows = record {
-      stands = h .shows .stands;
-      read = ap (λ (k : ℕ). k + 1) (h .shows .read);
-      scans = ap (λ (k : ℕ). k + 1) (h .shows .scans);
-      most = h .shows .most;
-      wrote = h .shows .wrote;
+    lies = record {
+      stands = h .lies .stands;
+      read = ap (λ (k : ℕ). k + 1) (h .lies .read);
+      scans = ap (λ (k : ℕ). k + 1) (h .lies .scans);
+      most = h .lies .most;
+      wrote = h .lies .wrote;
     };
     cellsLent = h .cellsLent;
     ordered = h .ordered;
@@ -98,12 +98,12 @@ module _ {n : ℕ} {older : List Definition} {whole start : List ℕ} {r : Run} 
       record {
         frames = advance fs;
         valid = advanceValid n b fs B Bs x rest (h .valid) p q;
-        shows = rw (al .0) (record {
-          stands = h .shows .stands;
-          read = h .shows .read;
-          scans = h .shows .scans;
-          most = h .shows .most;
-          wrote = h .shows .wrote;
+        lies = rw (al .0) (record {
+          stands = h .lies .stands;
+          read = h .lies .read;
+          scans = h .lies .scans;
+          most = h .lies .most;
+          wrote = h .lies .wrote;
         });
         cellsLent = h .cellsLent;
         ordered = h .ordered;

@@ -139,7 +139,7 @@ module _ {n : ℕ} {older : List Definition} {whole start : List ℕ} {r : Run} 
   module _ (long : 2 < length list) where
     -- what stood at the `$` lies within the cells
     toWithin : (to ≤ n) × (n ≤ 65536) × (length l ≡ n) × (to + width U ≡ n)
-    toWithin = let w = width-append (a .since) U in (omega arith, a .cellsLent, a .shows .stands .size, omega (arith, a .shows .stands .right))
+    toWithin = let w = width-append (a .since) U in (omega arith, a .cellsLent, a .lies .stands .size, omega (arith, a .lies .stands .right))
 
     -- where the name stands
     nameAt : ArgumentAt l (r .calls .call + argumentsFrom) list 1 first
@@ -168,7 +168,7 @@ module _ {n : ℕ} {older : List Definition} {whole start : List ℕ} {r : Run} 
           x .counted,
           y .counted,
           le-ltb to (size + (r .calls .call + 0)) (omega arith),
-          lt-leb cellsLimit (r .counts .live - count (a .since)) (omega (arith, a .shows .stands .live, count-append (a .since) U, count-width U, width-append (a .since) U, toAbove a)),
+          lt-leb cellsLimit (r .counts .live - count (a .since)) (omega (arith, a .lies .stands .live, count-append (a .since) U, count-width U, width-append (a .since) U, toAbove a)),
           putBefore l name value first second to (x .bytes) (y .bytes) (omega arith) (omega arith) (omega arith) (omega arith) (omega arith),
         )
 
@@ -192,7 +192,7 @@ module _ {n : ℕ} {older : List Definition} {whole start : List ℕ} {r : Run} 
         record {
           frames = made 0 name value [] ∷ a .under;
           valid = a .valid;
-          shows = record {
+          lies = record {
             stands = record {
               size = omega (arith, length-append (take (to - size) l) tail, length-append name (value ++ drop to l), length-append value (drop to l), length-drop to l);
               right = omega (arith, width-cons (defined 0 name value []) U, definition-size 0 name value []);
@@ -200,12 +200,12 @@ module _ {n : ℕ} {older : List Definition} {whole start : List ℕ} {r : Run} 
               definitions =
                   ap (λ (k : ℕ). record { name = name; content = macro (record { value = value; room = k }) } ∷ oldest (b + count U) (s .standing .definitions)) v
                   ∙ ap (λ (t : List Definition). definitionOf name value [] ∷ t) (leftDefinitions a);
-              live = omega (arith, a .shows .stands .live, count-append (a .since) U);
+              live = omega (arith, a .lies .stands .live, count-append (a .since) U);
             };
-            read = a .shows .read;
-            scans = a .shows .scans;
-            most = a .shows .most;
-            wrote = a .shows .wrote;
+            read = a .lies .read;
+            scans = a .lies .scans;
+            most = a .lies .most;
+            wrote = a .lies .wrote;
           };
           cellsLent = a .cellsLent;
           ordered = omega arith;

@@ -91,12 +91,12 @@ ownIs {n} {older} {whole} {start} {r} {l} {o} {s} h = go (calls n b fs) refl
         let c : Collects n b fs = rw e (omega arith) in
         let g : r .calls .left ≡ places n b fs .left = ap (λ (p : Places). p .left) (h .placesAre) in
         let before = callBefore n b fs c in
-        let q : eqb (r .calls .call) nowhere ≡ false = ne-eqb (r .calls .call) nowhere (λ (z : r .calls .call ≡ nowhere). absurd (omega (arith, callEq, h .ordered, h .shows .stands .right, h .cellsLent))) in
+        let q : eqb (r .calls .call) nowhere ≡ false = ne-eqb (r .calls .call) nowhere (λ (z : r .calls .call ≡ nowhere). absurd (omega (arith, callEq, h .ordered, h .lies .stands .right, h .cellsLent))) in
         let cellEq : listLink l (r .calls .call) ≡ getD (lefts n b fs) (places n b fs .call + 1) 0 =
         sym (getD-take (r .calls .left) l (r .calls .call + 1) 0 (omega (arith, callEq))) ∙ ap (λ (x : List ℕ). getD x (r .calls .call + 1) 0) (h .leftsAre) ∙ ap (λ (x : ℕ). getD (lefts n b fs) (x + 1) 0) callEq in
         let listEq : r .source .list ≡ places n b fs .list = ap (λ (p : Places). p .list) (h .placesAre) in
         rw q (ap (λ (x : ℕ). eqb x (r .source .list)) cellEq ∙ ap (λ (x : ℕ). eqb (getD (lefts n b fs) (places n b fs .call + 1) 0) x) listEq
-        ∙ ownTest n b (h .cellsLent) fs c (omega (arith, h .shows .stands .right)) ∙ sym abstract′)
+        ∙ ownTest n b (h .cellsLent) fs c (omega (arith, h .lies .stands .right)) ∙ sym abstract′)
 
 -- what the frames say where the body being read is the innermost of them
 module _ {n : ℕ} {older : List Definition} {whole start : List ℕ} {r : Run} {l o : List ℕ} {s : State}
@@ -171,11 +171,11 @@ module _ {n : ℕ} {older : List Definition} {whole start : List ℕ} {r : Run} 
       list-size (address n U) (packed (listPrice (x .list) - listOverhead) (places n b′ (x .under) .list)) (packed (places n b′ (x .under) .body) (places n b′ (x .under) .offset)) (x .list),
       width-append (x .collected) U,
     ),
-    omega (arith, h .shows .stands .right, ap width itemsIs, width-append (x .since) (I ∷ (x .collected ++ U))),
+    omega (arith, h .lies .stands .right, ap width itemsIs, width-append (x .since) (I ∷ (x .collected ++ U))),
   )
 
   cellsFrom : drop (r .right) l ≡ encode (x .since) ++ encode (I ∷ (x .collected ++ U))
-  cellsFrom = h .shows .stands .cells ∙ ap encode itemsIs ∙ encode-append (x .since) (I ∷ (x .collected ++ U))
+  cellsFrom = h .lies .stands .cells ∙ ap encode itemsIs ∙ encode-append (x .since) (I ∷ (x .collected ++ U))
 
   cellsAt : drop A l ≡ encode (I ∷ (x .collected ++ U)) ++ []
   cellsAt =
@@ -200,7 +200,7 @@ module _ {n : ℕ} {older : List Definition} {whole start : List ℕ} {r : Run} 
       let d : drop (A + listPrice (x .list)) l ≡ encode (x .collected) ++ encode U =
       lists .behind ∙ append-nil (encode (x .collected ++ U)) ∙ encode-append (x .collected) U in
       subst (λ (k : ℕ). definitions l (A + listPrice (x .list)) k ≡ count (x .collected)) e
-      (definitions-count l (A + listPrice (x .list)) (x .collected) (encode U) d (validIs .1) (omega (arith, w .0, w .1, h .shows .stands .size)))
+      (definitions-count l (A + listPrice (x .list)) (x .collected) (encode U) d (validIs .1) (omega (arith, w .0, w .1, h .lies .stands .size)))
 
   -- the definitions made in the body move up to where the others end
   abbrev upTo : ℕ
@@ -213,7 +213,7 @@ module _ {n : ℕ} {older : List Definition} {whole start : List ℕ} {r : Run} 
       let blockIs : block (r .right) (r .source .list - r .right) l ≡ encode (x .since) =
       ap (take (r .source .list - r .right)) cellsFrom
       ∙ take-at (encode (x .since)) (encode (I ∷ (x .collected ++ U))) (r .source .list - r .right) (sym q) in
-      moved-in (r .right) upTo (r .source .list - r .right) l (omega (arith, listEq, w .0, w .1, h .shows .stands .size)) (omega (arith, listEq, w .0, w .1, h .shows .stands .size))
+      moved-in (r .right) upTo (r .source .list - r .right) l (omega (arith, listEq, w .0, w .1, h .lies .stands .size)) (omega (arith, listEq, w .0, w .1, h .lies .stands .size))
       ∙ ap (λ (k : List ℕ). placed upTo k l) blockIs
 
   -- the standing once the body has ended
@@ -226,7 +226,7 @@ module _ {n : ℕ} {older : List Definition} {whole start : List ℕ} {r : Run} 
       let w = widths in
       let ml = madeLaid n b′ (x .since) (x .under) (x .definitions) in
       let p = places n b′ (x .under) in
-      let fit : upTo + width (x .since) ≤ length l = omega (arith, listEq, w .0, w .1, h .shows .stands .size) in
+      let fit : upTo + width (x .since) ≤ length l = omega (arith, listEq, w .0, w .1, h .lies .stands .size) in
       let inner : width U ≤ n = omega (arith, listEq, w .0, w .1) in
       let lowList : low (packed (listPrice (x .list) - listOverhead) (p .list)) ≡ p .list = packed-low (listPrice (x .list) - listOverhead) (p .list) (omega (arith, listBelow n b′ (h .cellsLent) (x .under) inner)) in
       let highBody : high (packed (p .body) (p .offset)) ≡ p .body = packed-high (p .body) (p .offset) (body-below n b′ (h .cellsLent) (x .under) (validIs .0)) in
@@ -238,9 +238,9 @@ module _ {n : ℕ} {older : List Definition} {whole start : List ℕ} {r : Run} 
       record {
         frames = madeAll (x .since) (x .under);
         valid = madeValid n b′ (x .since) (x .under) (validIs .0);
-        shows = rw (ml .0) (record {
+        lies = rw (ml .0) (record {
           stands = record {
-            size = placed-length upTo (encode (x .since)) l fit ∙ h .shows .stands .size;
+            size = placed-length upTo (encode (x .since)) l fit ∙ h .lies .stands .size;
             right = omega (arith, listEq, w .0, w .1, width-append (x .since) U);
             cells =
                 drop-placed upTo (encode (x .since)) l (omega arith)
@@ -251,14 +251,14 @@ module _ {n : ℕ} {older : List Definition} {whole start : List ℕ} {r : Run} 
                 ∙ drop-at (encode (x .collected)) (encode U) (width (x .collected)) refl)
                 ∙ sym (encode-append (x .since) U);
             definitions =
-                ap (without (b′ + count U) (b′ + count (x .collected ++ U))) (h .shows .stands .definitions ∙ ap (λ (k : List Definition). k ++ older) ds)
+                ap (without (b′ + count U) (b′ + count (x .collected ++ U))) (h .lies .stands .definitions ∙ ap (λ (k : List Definition). k ++ older) ds)
                 ∙ without-items (x .since) (x .collected) U older (b′ + count U) (b′ + count (x .collected ++ U)) refl refl;
-            live = omega (arith, h .shows .stands .live, counts, count-append (x .since) U);
+            live = omega (arith, h .lies .stands .live, counts, count-append (x .since) U);
           };
-          read = h .shows .read;
-          scans = h .shows .scans;
-          most = h .shows .most;
-          wrote = h .shows .wrote;
+          read = h .lies .read;
+          scans = h .lies .scans;
+          most = h .lies .most;
+          wrote = h .lies .wrote;
         });
         cellsLent = h .cellsLent;
         ordered = omega (arith, h .ordered);
@@ -309,9 +309,9 @@ module _ {n : ℕ} {older : List Definition} {whole start : List ℕ} {r : Run} 
         readerEq,
         linksEq,
         le-ltb to (r .source .list) (omega (arith, listEq, w .0, w .1)),
-        le-ltb (length l) to (omega (arith, h .shows .stands .size)),
+        le-ltb (length l) to (omega (arith, h .lies .stands .size)),
         le-ltb (r .source .list) (r .right) (omega (arith, listEq, w .1)),
-        le-ltb (r .counts .live) (count (x .collected)) (omega (arith, h .shows .stands .live)),
+        le-ltb (r .counts .live) (count (x .collected)) (omega (arith, h .lies .stands .live)),
         movedIs,
       )
 

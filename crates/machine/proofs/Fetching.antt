@@ -27,11 +27,11 @@ use Rattle.machine.specs.Walks.{nowhere, mark, headSize, nameLength, arg
 use Rattle.machine.specs.Machine as M
 use Rattle.machine.proofs.Moves.{Reader, readerOf}
 use Rattle.machine.proofs.Represents.{Simulates}
-use Rattle.machine.proofs.Finds.{HoldsItems, Named, at-cells, Listed, list-cells, argument-at, argument-past}
+use Rattle.machine.proofs.Finds.{HoldsItems, at-cells, Listed, list-cells, argument-at, argument-past}
 use Rattle.machine.proofs.Putting.{refusal, copyBlock}
 use Rattle.machine.proofs.Counting.{advanced}
 use Rattle.machine.specs.Items.{encode, encodeArguments}
-use Rattle.machine.specs.Frames.{Places, Frame, made, collects, reads, items, places, bodies, Valid}
+use Rattle.machine.specs.Frames.{Places, reads, items, places, bodies}
 use Rattle.machine.specs.Held.{Represents}
 
 -- a block of bytes is the same in the low bits of the cells
@@ -50,17 +50,9 @@ each k [] h = empty
 each zero (a ∷ list) (with x h) = x
 each (suc k) (a ∷ list) (with x h) = each k list h
 
--- every list has a name
-pub validNamed : (n b : ℕ) (fs : List Frame) → Valid n b fs → Named (bodies n b fs)
-unfolding Valid bodies Named
-validNamed n b [] v = tt
-validNamed n b (made f name value spare ∷ fs) v = validNamed n b fs v
-validNamed n b (collects ended hand waits ∷ fs) v = validNamed n b fs v
-validNamed n b (reads list since d k x o ∷ fs) v = (v .4, validNamed n b fs (v .0))
-
 module _ {n : ℕ} {older : List Definition} {whole start : List ℕ} {r : Run} {l o : List ℕ} {s : State} (h : Represents n older whole start r (lent l o) s) where
   pub holdsOf : HoldsItems n l (r .right) (items n (length older) (h .frames))
-  holdsOf = record { size = h .shows .stands .size; cellsLent = h .cellsLent; ends = h .shows .stands .right; cells = h .shows .stands .cells }
+  holdsOf = record { size = h .lies .stands .size; cellsLent = h .cellsLent; ends = h .lies .stands .right; cells = h .lies .stands .cells }
 
   -- the byte that the code reads of the body is the next of its bytes
   module _ (B : Body) (Bs : List Body) (e : s .bodies ≡ B ∷ Bs) where
@@ -124,7 +116,7 @@ numbered x = low (ltb x 48) refl
 module _ {n : ℕ} {older : List Definition} {whole start : List ℕ} {r : Run} {l o : List ℕ} {s : State}
     (free : definitionsPrice older ≡ 0) (h : Represents n older whole start r (lent l o) s) (B : Body) (Bs : List Body) (e : s .bodies ≡ B ∷ Bs) where
   listed : Listed n (length older) l (r .right) (places n (length older) (h .frames) .list) B Bs
-  listed = list-cells (h .frames) (h .valid) (validNamed n (length older) (h .frames) (h .valid)) (holdsOf h) (sym (h .bodiesAre) ∙ e)
+  listed = list-cells (h .frames) (h .valid) (holdsOf h) (sym (h .bodiesAre) ∙ e)
 
   listEq : r .source .list ≡ places n (length older) (h .frames) .list
   listEq = ap (λ (p : Places). p .list) (h .placesAre)

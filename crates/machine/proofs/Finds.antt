@@ -6,7 +6,7 @@ use mathlib.Core.Bool.{Bool, true, false, cond, _||_}
 use mathlib.Core.List.{List, [], _∷_, _++_, append-assoc, append-nil}
 use lib.ListN.{length, take, drop, getD, length-append}
 use lib.Seq.{getD-drop, drop-drop, take-at, drop-at}
-use lib.Dec.{eqb}
+use lib.Dec.{eqb, leb}
 use borrow.Author.Tests.{le-leb, lt-leb, eq-eqb, ne-eqb, eqb-true, eqb-false}
 use Rattle.language.specs.Expansion.{lent}
 use Rattle.language.specs.Signs.{Bytes}
@@ -18,8 +18,9 @@ use Rattle.memory.specs.Block.{block, same, sameBlocks}
 use Rattle.memory.proofs.Blocks.{ne-same, same-true, sameBlocks-in}
 use Rattle.machine.specs.Walks.{headSize, argumentsFrom, listOverhead, nameLength, room, valueLength, rightBefore, listLink, returnLink, nowhere, mark, packed, high, low, argument, size, newestFrom, newest, definitionsFrom, definitions, isReadFrom, isRead}
 use Rattle.machine.proofs.Items.{list-size, definition-size, width-append, width-cons}
-use Rattle.machine.specs.Items.{Item, defined, listed, encodeArguments, encodeItem, encode, width, definitionsOf, count, Definitions}
+use Rattle.machine.specs.Items.{Item, defined, listed, encodeArguments, encodeItem, encode, width, definitionOf, definitionsOf, count, Definitions}
 use Rattle.machine.specs.Frames.{Frame, made, collects, reads, address, At, here, there, listItem, laid, items, places, bodies, Valid}
+use Rattle.machine.specs.Held.{definitionAt, definitionsHeldFrom, definitionsHeld}
 use Rattle.machine.proofs.Lists.{packed-low, packed-high}
 
 -- Cells of a list ----------------------------------------------------------------------------------------------------
@@ -167,8 +168,6 @@ pub definitions-count : (l : List ℕ) (p : ℕ) (since : List Item) (rest : Lis
     → p + width since ≤ length l → definitions l p (p + width since) ≡ count since
 definitions-count l p since rest e ds h = definitions-in (length l) l p (p + width since) since rest e ds refl (omega arith)
 
--- Numbers that come back ---------------------------------------------------------------------------------------------
-
 -- Cells that hold items ----------------------------------------------------------------------------------------------
 
 -- the cells from p to the end hold the items
@@ -301,11 +300,6 @@ list-at l p to links reader list its rest e =
       behind = rw (list-size to links reader list) at (drop-item l p (listed to links reader list) its rest e);
     }
 
--- each list has its name
-unfoldable pub Named : List Body → Type 0
-Named [] = Unit {0}
-Named (b ∷ bs) = (0 < length (b .list)) × Named bs
-
 -- the size of a list that has its name comes back from its links
 size-back : (list : List Bytes) (back : ℕ) → 0 < length list → listPrice list ≤ 65536 → high (packed (listPrice list - listOverhead) back) + listOverhead ≡ listPrice list
 unfolding argumentsPrice
@@ -361,13 +355,13 @@ module _ (n base : ℕ) (lent : n ≤ 65536) where
   chain-past (listed to links reader list ∷ since) ds c = absurd ds
 
   -- the chain of the frames
-  chain-of : (fs : List Frame) → Valid n base fs → Named (bodies n base fs) → width (items n base fs) ≤ n
+  chain-of : (fs : List Frame) → Valid n base fs → width (items n base fs) ≤ n
       → Chain n base (items n base fs) (places n base fs .list) (places n base fs .body) (reading (bodies n base fs))
-  unfolding laid Valid bodies Named reading
-  chain-of [] v m h = unlinked
-  chain-of (made f name value spare ∷ fs) v m h = past (chain-of fs v m (omega (arith, width-cons (defined f name value spare) (items n base fs))))
-  chain-of (collects ended hand waits ∷ fs) v m h = chain-of fs v m h
-  chain-of (reads list since d k x o ∷ fs) v m h =
+  unfolding laid Valid bodies reading
+  chain-of [] v h = unlinked
+  chain-of (made f name value spare ∷ fs) v h = past (chain-of fs v (omega (arith, width-cons (defined f name value spare) (items n base fs))))
+  chain-of (collects ended hand waits ∷ fs) v h = chain-of fs v h
+  chain-of (reads list since d k x o ∷ fs) v h =
       let r = places n base fs in
       let its = items n base fs in
       let i = listItem r (address n its) list in
@@ -375,11 +369,11 @@ module _ (n base : ℕ) (lent : n ≤ 65536) where
       let w = width-cons i (since ++ its) in
       let z = list-size (address n its) (packed (listPrice list - listOverhead) (r .list)) (packed (r .body) (r .offset)) list in
       linked refl
-      (size-back list (r .list) (m .0) (omega arith))
+      (size-back list (r .list) (v .4) (omega arith))
       (packed-low (listPrice list - listOverhead) (r .list) (list-below fs))
       (packed-high (r .body) (r .offset) (body-below fs (v .0)))
       (v .2)
-      (chain-past since (v .1) (chain-of fs (v .0) (m .1) (omega arith)))
+      (chain-past since (v .1) (chain-of fs (v .0) (omega arith)))
 
   -- no list stands before the items, even if there is none
   chain-above : {its : List Item} {list body : ℕ} {ks : List ℕ} → Chain n base its list body ks → n ≤ list + 1 + width its
@@ -387,6 +381,33 @@ module _ (n base : ℕ) (lent : n ≤ 65536) where
   chain-above unlinked = omega arith
   chain-above (past {f} {name} {value} {spare} {its} c) = omega (arith, chain-above c, width-cons (defined f name value spare) its)
   chain-above (linked e a b c d r) = omega arith
+
+-- One turn of a walk --------------------------------------------------------------------------------------------------
+
+-- at a definition: it is within the cells, it is no list, and its size leads to the next item
+definition-turn : {n base : ℕ} {l : List ℕ} {p f : ℕ} {name value spare : Bytes} {its : List Item} {list body : ℕ} {ks : List ℕ}
+    → Chain n base its list body ks → HoldsItems n l p (defined f name value spare ∷ its)
+    → (leb (length l) p ≡ false) × (eqb p list ≡ false) × (size l p ≡ length (encodeItem (defined f name value spare)))
+definition-turn {l = l} {p} {f} {name} {value} {spare} {its} {list} c h =
+    let i : Item = defined f name value spare in
+    let d = definition-at l p f name value spare its [] (held h) in
+    let w = width-cons i its in
+    let z = item-size i in
+    let q : p ≡ list → ⊥ = λ e. omega (arith, chain-above _ _ (h .cellsLent) c, h .ends) in
+    (lt-leb (length l) p (omega (arith, h .size, h .ends)), ne-eqb p list q, omega (arith, definition-size f name value spare, d .named, d .roomy))
+
+-- at a list: it is within the cells, it is the list, and its links lead to the next item and the next list
+list-turn : {n : ℕ} {l : List ℕ} {p to links reader at list : ℕ} {args : List Bytes} {its : List Item}
+    → at ≡ address n (listed to links reader args ∷ its) → high links + listOverhead ≡ listPrice args → low links ≡ list
+    → HoldsItems n l p (listed to links reader args ∷ its)
+    → (leb (length l) p ≡ false) × (eqb p at ≡ true) × (p + high (listLink l p) + listOverhead ≡ p + length (encodeItem (listed to links reader args)))
+    × (low (listLink l p) ≡ list)
+list-turn {n} {l} {p} {to} {links} {reader} {at} {list} {args} {its} a b e h =
+    let i : Item = listed to links reader args in
+    let y = list-at l p to links reader args its [] (held h) in
+    let w = width-cons i its in
+    let z = item-size i in
+    (lt-leb (length l) p (omega (arith, h .size, h .ends)), eq-eqb p at (omega (arith, h .ends)), omega (arith, ap high (y .linksAre), list-size to links reader args), ap low (y .linksAre) ∙ e)
 
 -- The newest definition with a name ----------------------------------------------------------------------------------
 
@@ -477,25 +498,49 @@ module _ {n : ℕ} {l : List ℕ} (name : ℕ) (t : Bytes) (is : block (name + 1
   newest-in zero (past {f} {name = own} {value} {spare} {its} c) h w =
       absurd (omega (arith, width-cons (defined f own value spare) its, item-size (defined f own value spare)))
   newest-in (suc turns) {p = p} {list = list} (past {f} {name = own} {value} {spare} {its} c) h w =
-      let i : Item = defined f own value spare in
-      let d = definition-at l p f own value spare its [] (held h) in
-      let a = width-cons i its in
-      let z = item-size i in
-      let m : size l p ≡ length (encodeItem i) = omega (arith, definition-size f own value spare) in
-      let q : p ≡ list → ⊥ = λ e. omega (arith, chain-above _ _ (h .cellsLent) c) in
-      rw (lt-leb (length l) p (omega arith), ne-eqb p list q, m, named-test h)
+      let a = width-cons (defined f own value spare) its in
+      let z = item-size (defined f own value spare) in
+      let x = definition-turn c h in
+      rw (x .0, x .1, x .2, named-test h)
       (newest-pick t (omega arith) h (newest-in turns c (holds-rest h) (omega arith)))
   newest-in zero (linked {to} {links} {reader} {args} {its} a b e q d c) h w =
       absurd (omega (arith, width-cons (listed to links reader args) its, item-size (listed to links reader args)))
   newest-in (suc turns) {p = p} {list = list} (linked {to} {links} {reader} {args} {its} a b e q d c) h w =
-      let i : Item = listed to links reader args in
-      let y = list-at l p to links reader args its [] (held h) in
-      let o = width-cons i its in
-      let z = item-size i in
-      let m : p + high (listLink l p) + listOverhead ≡ p + length (encodeItem i) = omega (arith, ap high (y .linksAre), list-size to links reader args) in
-      let g : low (listLink l p) ≡ _ = ap low (y .linksAre) ∙ e in
-      rw (lt-leb (length l) p (omega arith), eq-eqb p list (omega arith), m, g)
+      let o = width-cons (listed to links reader args) its in
+      let z = item-size (listed to links reader args) in
+      let x = list-turn a b e h in
+      rw (x .0, x .1, x .2, x .3)
       (newest-listed (omega arith) (newest-in turns c (holds-rest h) (omega arith)))
+
+-- The definitions read out of the cells ------------------------------------------------------------------------------
+
+-- a definition among items is read as it is
+definition-read : (l : List ℕ) (p f : ℕ) (name value spare : Bytes) (its : List Item) (rest : List ℕ)
+    → drop p l ≡ encode (defined f name value spare ∷ its) ++ rest → definitionAt l p ≡ definitionOf name value spare
+definition-read l p f name value spare its rest e =
+    let d = definition-at l p f name value spare its rest e in
+    rw (d .named, d .valued, d .roomy, d .nameIs, d .valueIs)
+
+-- the walk reads the definitions of the items, given turns enough
+held-in : {n base : ℕ} {l : List ℕ} (turns : ℕ) {p : ℕ} {its : List Item} {list body : ℕ} {ks : List ℕ} → Chain n base its list body ks → HoldsItems n l p its
+    → width its ≤ turns → definitionsHeldFrom turns l p list ≡ definitionsOf its
+unfolding definitionsHeldFrom encode definitionsOf
+held-in zero unlinked h w = refl
+held-in {l = l} (suc turns) {p = p} unlinked h w = rw (le-leb (length l) p (omega (arith, h .size, h .ends)))
+held-in zero (past {f} {name} {value} {spare} {its} c) h w =
+    absurd (omega (arith, width-cons (defined f name value spare) its, item-size (defined f name value spare)))
+held-in {l = l} (suc turns) {p = p} (past {f} {name} {value} {spare} {its} c) h w =
+    let a = width-cons (defined f name value spare) its in
+    let z = item-size (defined f name value spare) in
+    let x = definition-turn c h in
+    rw (x .0, x .1, x .2, definition-read l p f name value spare its [] (held h), held-in turns c (holds-rest h) (omega arith))
+held-in zero (linked {to} {links} {reader} {args} {its} a b e q d c) h w =
+    absurd (omega (arith, width-cons (listed to links reader args) its, item-size (listed to links reader args)))
+held-in (suc turns) {p = p} (linked {to} {links} {reader} {args} {its} a b e q d c) h w =
+    let o = width-cons (listed to links reader args) its in
+    let z = item-size (listed to links reader args) in
+    let x = list-turn a b e h in
+    rw (x .0, x .1, x .2, x .3, held-in turns c (holds-rest h) (omega arith))
 
 -- Whether a body is read ---------------------------------------------------------------------------------------------
 
@@ -566,13 +611,13 @@ listed-there h r = record {
 }
 
 -- the list of the innermost body is found in the cells
-pub list-cells : {n base : ℕ} {l : List ℕ} {right : ℕ} (fs : List Frame) {b : Body} {bs : List Body} → Valid n base fs → Named (bodies n base fs)
+pub list-cells : {n base : ℕ} {l : List ℕ} {right : ℕ} (fs : List Frame) {b : Body} {bs : List Body} → Valid n base fs
     → HoldsItems n l right (items n base fs) → bodies n base fs ≡ b ∷ bs → Listed n base l right (places n base fs .list) b bs
-unfolding laid Valid bodies Named
-list-cells [] v m h e = let z : _≡_ {A = ℕ} 0 1 = cc in absurd (omega arith)
-list-cells (made f name value spare ∷ fs) v m h e = listed-there (omega arith) (list-cells fs v m (holds-rest h) e)
-list-cells (collects ended hand waits ∷ fs) v m h e = list-cells fs v m h e
-list-cells {n} {base} {l} {right} (reads list since d k x o ∷ fs) {b} {bs} v m h e =
+unfolding laid Valid bodies
+list-cells [] v h e = let z : _≡_ {A = ℕ} 0 1 = cc in absurd (omega arith)
+list-cells (made f name value spare ∷ fs) v h e = listed-there (omega arith) (list-cells fs v (holds-rest h) e)
+list-cells (collects ended hand waits ∷ fs) v h e = list-cells fs v h e
+list-cells {n} {base} {l} {right} (reads list since d k x o ∷ fs) {b} {bs} v h e =
     let u = places n base fs in
     let its = items n base fs in
     let i = listItem u (address n its) list in
@@ -595,22 +640,27 @@ list-cells {n} {base} {l} {right} (reads list since d k x o ∷ fs) {b} {bs} v m
       applied = cc;
       from = omega arith;
       within = omega (arith, h .ends);
-      sizeIs = rw (c .linksAre) (size-back list (u .list) (m .0) (omega (arith, h .ends, h .cellsLent)));
+      sizeIs = rw (c .linksAre) (size-back list (u .list) (v .4) (omega (arith, h .ends, h .cellsLent)));
       listIs = rw (c .linksAre) (packed-low (listPrice list - listOverhead) (u .list) (list-below n base (h .cellsLent) fs));
       bodyIs = rw (c .readerIs) (packed-high (u .body) (u .offset) (body-below n base (h .cellsLent) fs (v .0)));
       offsetIs = rw (c .readerIs) (packed-low (u .body) (u .offset) (offset-below n base (h .cellsLent) fs (v .0) (omega (arith, h .ends))));
     })
 
-module _ {n base : ℕ} {l : List ℕ} {right : ℕ} (fs : List Frame) (valid : Valid n base fs) (named : Named (bodies n base fs))
+module _ {n base : ℕ} {l : List ℕ} {right : ℕ} (fs : List Frame) (valid : Valid n base fs)
     (h : HoldsItems n l right (items n base fs)) where
   -- the newest definition with the name in the cells at a length cell
   pub newest-finds : {list : ℕ} (name : ℕ) (t : Bytes) → list ≡ places n base fs .list → getD l name 0 ≡ length t → block (name + 1) (length t) l ≡ t
       → name + 1 + length t ≤ n → Newest n base l right (items n base fs) t (newest l right list name)
   newest-finds name t e c is fits =
-      rw (e, c) (newest-in name t is fits (length l) (chain-of n base (h .cellsLent) fs valid named (omega arith)) h (omega arith))
+      rw (e, c) (newest-in name t is fits (length l) (chain-of n base (h .cellsLent) fs valid (omega arith)) h (omega arith))
 
   -- whether the body of a definition is read is whether its number is among those that are read
   pub isRead-finds : {list body d k : ℕ} {v : Bytes} → list ≡ places n base fs .list → body ≡ places n base fs .body
       → At n base (items n base fs) d k v → isRead l list body d ≡ among k (reading (bodies n base fs))
   isRead-finds e q a =
-      rw (e, q) (read-in (omega arith) a (length l) (chain-of n base (h .cellsLent) fs valid named (omega arith)) h (λ d′ k′ v′ x. x) (omega arith))
+      rw (e, q) (read-in (omega arith) a (length l) (chain-of n base (h .cellsLent) fs valid (omega arith)) h (λ d′ k′ v′ x. x) (omega arith))
+
+-- the definitions that the cells hold are those of the items
+pub held-finds : (n base : ℕ) {l : List ℕ} {right list : ℕ} (fs : List Frame) → Valid n base fs → HoldsItems n l right (items n base fs)
+    → list ≡ places n base fs .list → definitionsHeld l right list ≡ definitionsOf (items n base fs)
+held-finds n base {l} fs valid h e = rw e (held-in (length l) (chain-of n base (h .cellsLent) fs valid (omega (arith, h .ends))) h (omega (arith, h .ends, h .size)))

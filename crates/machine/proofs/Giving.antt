@@ -4,7 +4,7 @@ use native.Mathlib.Omega.{arith}
 use mathlib.Core.Path.{_≡_, refl, sym, ap, subst, _∙_}
 use mathlib.Core.Bool.{Bool, true, false, cond, not}
 use mathlib.Core.List.{List, [], _∷_, _++_}
-use lib.ListN.{length, drop, getD}
+use lib.ListN.{length, drop}
 use lib.Dec.{leb, ltb}
 use borrow.Author.Tests.{eq-eqb, ne-eqb, leb-true}
 use Rattle.language.specs.Outcomes
@@ -19,14 +19,15 @@ use Rattle.machine.specs.declared.run.Run.{Run}
 use Rattle.machine.specs.Walks.{nowhere, packed, high, low, returnLink}
 use Rattle.machine.specs.Machine as M
 use Rattle.machine.proofs.Stack.{noCall}
-use Rattle.machine.proofs.Moves.{Collects, putHand}
+use Rattle.machine.proofs.Moves.{Collects, putHand, madeAll, madeLaid, madeValid}
+use Rattle.machine.proofs.Showing.{showsOf}
 use Rattle.machine.proofs.Represents.{Simulates, goes, stops, outputSize}
 use Rattle.machine.proofs.Putting.{roomTest, writes, collectsPlaced, callBefore}
 use Rattle.machine.proofs.Applying.{Applied}
 use Rattle.machine.proofs.Calling.{rightTo, linksIs, outerCall, releaseIs, toAbove, underCells, leftDefinitions, freed, chargeIs}
 use Rattle.machine.specs.Items.{Item, count}
 use Rattle.machine.specs.Frames.{Places, address, items, places, calls}
-use Rattle.machine.specs.Held.{Represents}
+use Rattle.machine.specs.Held.{Shows, Represents}
 use Rattle.machine.proofs.Lists.{overwrite}
 
 abbrev pub mostly : ℕ → State → State
@@ -40,12 +41,12 @@ pub remost : {n : ℕ} {older : List Definition} {whole start : List ℕ} {r : R
 remost m h = record {
   frames = h .frames;
   valid = h .valid;
-  shows = record {
-    stands = h .shows .stands;
-    read = h .shows .read;
-    scans = h .shows .scans;
+  lies = record {
+    stands = h .lies .stands;
+    read = h .lies .read;
+    scans = h .lies .scans;
     most = refl;
-    wrote = h .shows .wrote;
+    wrote = h .lies .wrote;
   };
   cellsLent = h .cellsLent;
   ordered = h .ordered;
@@ -72,14 +73,22 @@ module _ {n : ℕ} {older : List Definition} {whole start : List ℕ} {r : Run} 
   abbrev links : ℕ
   links = packed (p .hand) (p .call)
 
+  -- the mark changes nothing that is shown
+  appliedShown : Shows older start r (lent l o) (s .standing)
+  appliedShown =
+      let made = madeLaid n b (a .since) (a .under) (a .definitions) in
+      showsOf (madeAll (a .since) (a .under)) (madeValid n b (a .since) (a .under) (a .valid)) (a .cellsLent)
+      (a .listIs ∙ ap (λ (q : Places). q .list) (sym (made .1)))
+      (rw (made .0) (a .lies))
+
   -- an outcome with nothing changed
   pub refused : (k : ℕ) → Simulates n older whole start (M.ends k r (lent l o)) (S.ends k s)
-  refused k = stops (record { answer = refl; its = a .since ++ U; shows = a .shows })
+  refused k = stops (record { answer = refl; shows = appliedShown })
 
   -- the list gone and nothing in its place
   pub gone : Represents n older whole start (M.released r 0 (address n U) links (count (a .since)) n) (lent l o)
       (S.withCalls (calls n b (a .under)) (S.withDefinitions (oldest (b + count U) (s .standing .definitions)) s))
-  gone = freed a (a .under) l (oldest (b + count U) (s .standing .definitions)) (a .valid) refl refl refl refl (a .shows .stands .size) refl refl (underCells a) (leftDefinitions a) refl
+  gone = freed a (a .under) l (oldest (b + count U) (s .standing .definitions)) (a .valid) refl refl refl refl (a .lies .stands .size) refl refl (underCells a) (leftDefinitions a) refl
 
   -- whether a call stands around the applied one
   noneAround : calls n b (a .under) ≡ [] → M.isOuter r l ≡ true
@@ -88,7 +97,7 @@ module _ {n : ℕ} {older : List Definition} {whole start : List ℕ} {r : Run} 
   someAround : Collects n b (a .under) → M.isOuter r l ≡ false
   someAround c =
       let e : low (returnLink l (r .calls .call)) ≡ p .call = ap low (linksIs a) ∙ outerCall a in
-      let k : p .call < nowhere = omega (arith, callBefore n b (a .under) c, a .callIs, a .leftIs, a .room, a .shows .stands .right, a .cellsLent) in
+      let k : p .call < nowhere = omega (arith, callBefore n b (a .under) c, a .callIs, a .leftIs, a .room, a .lies .stands .right, a .cellsLent) in
       ne-eqb (low (returnLink l (r .calls .call))) nowhere (λ (z : low (returnLink l (r .calls .call)) ≡ nowhere). absurd (omega arith))
 
   -- the standing with the list gone and so much collected
@@ -107,19 +116,19 @@ module _ {n : ℕ} {older : List Definition} {whole start : List ℕ} {r : Run} 
   givenIn bs X c is = go (leb (r .charge + length bs) n) refl
     where
       below : r .charge ≤ n
-      below = omega (arith, a .carried, a .room, a .shows .stands .right)
+      below = omega (arith, a .carried, a .room, a .lies .stands .right)
 
       chargeEq : S.charge s + (1 + length bs) ≡ r .charge + length bs
       chargeEq = omega (arith, chargeIs a free)
 
       test : ltb (length l - r .charge) (length bs) ≡ not (leb (r .charge + length bs) n)
-      test = ap (λ (k : ℕ). ltb (k - r .charge) (length bs)) (a .shows .stands .size) ∙ roomTest n (r .charge) (length bs) below
+      test = ap (λ (k : ℕ). ltb (k - r .charge) (length bs)) (a .lies .stands .size) ∙ roomTest n (r .charge) (length bs) below
 
       m : ℕ
       m = max (r .counts .most) (r .charge + length bs)
 
       mostEq : m ≡ max (s .standing .most) (S.charge s + (1 + length bs))
-      mostEq = ap (λ (k : ℕ). max k (r .charge + length bs)) (a .shows .most) ∙ ap (max (s .standing .most)) (sym chargeEq)
+      mostEq = ap (λ (k : ℕ). max k (r .charge + length bs)) (a .lies .most) ∙ ap (max (s .standing .most)) (sym chargeEq)
 
       target : State
       target = S.withCalls (putHand bs (calls n b (a .under))) (S.withDefinitions (oldest (b + count U) (s .standing .definitions)) s)
@@ -128,7 +137,7 @@ module _ {n : ℕ} {older : List Definition} {whole start : List ℕ} {r : Run} 
       rep e =
           let t = toAbove a in
           let t₂ = rightTo a in
-          let fit : r .calls .call + 0 + (n - address n U) + length bs ≤ n = omega (arith, a .carried, a .leftIs, a .room, a .shows .stands .right) in
+          let fit : r .calls .call + 0 + (n - address n U) + length bs ≤ n = omega (arith, a .carried, a .leftIs, a .room, a .lies .stands .right) in
           let c₂ : Collects n b (gone .frames) = subst (λ (k : List Call). 0 < length k) (gone .callsAre) c in
           let h = remost m (collectsPlaced free gone bs c₂ fit) in
           let z : r .calls .call + 0 ≡ r .calls .call = omega arith in
@@ -149,7 +158,7 @@ module _ {n : ℕ} {older : List Definition} {whole start : List ℕ} {r : Run} 
       go true e =
           let q = leb-true (r .charge + length bs) n e in
           let t = rightTo a in
-          let released = releaseIs a (M.charged (length bs) r) (length bs) o refl refl refl (omega (arith, a .carried, a .leftIs, a .room, a .shows .stands .right)) in
+          let released = releaseIs a (M.charged (length bs) r) (length bs) o refl refl refl (omega (arith, a .carried, a .leftIs, a .room, a .lies .stands .right)) in
           let test₂ : leb (S.charge s + (1 + length bs)) n ≡ true = ap (λ (k : ℕ). leb k n) chargeEq ∙ e in
           rw (test ∙ ap not e, test₂, released) (goes refl (rep q))
       go false e =
@@ -167,9 +176,9 @@ module _ {n : ℕ} {older : List Definition} {whole start : List ℕ} {r : Run} 
     where
       test : ltb (length o - r .counts .written) (length bs) ≡ not (leb (length (s .standing .output) + length bs) (length start))
       test =
-          ap (λ (k : ℕ). ltb (k - r .counts .written) (length bs)) (outputSize (a .shows))
-          ∙ ap (λ (k : ℕ). ltb (length start - k) (length bs)) (a .shows .wrote .written)
-          ∙ roomTest (length start) (length (s .standing .output)) (length bs) (a .shows .wrote .enough)
+          ap (λ (k : ℕ). ltb (k - r .counts .written) (length bs)) (outputSize (a .lies))
+          ∙ ap (λ (k : ℕ). ltb (length start - k) (length bs)) (a .lies .wrote .written)
+          ∙ roomTest (length start) (length (s .standing .output)) (length bs) (a .lies .wrote .enough)
 
       go : (t : Bool) → leb (length (s .standing .output) + length bs) (length start) ≡ t
           → Simulates n older whole start
@@ -180,7 +189,7 @@ module _ {n : ℕ} {older : List Definition} {whole start : List ℕ} {r : Run} 
           let t = toAbove a in
           let released = releaseIs a (M.wrote (length bs) r) 0 o refl refl refl (omega (arith, a .leftIs)) in
           let outEq : (s .standing .output ++ bs) ++ drop (length (s .standing .output ++ bs)) start ≡ O =
-          sym (is q ∙ ap (λ (k : ℕ). placed k bs o) (a .shows .wrote .written) ∙ ap (placed (length (s .standing .output)) bs) (a .shows .wrote .output) ∙ overwrite (s .standing .output) start bs q) in
+          sym (is q ∙ ap (λ (k : ℕ). placed k bs o) (a .lies .wrote .written) ∙ ap (placed (length (s .standing .output)) bs) (a .lies .wrote .output) ∙ overwrite (s .standing .output) start bs q) in
           let h = subst (λ (k : List Call). Represents n older whole start (M.wrote (length bs) (M.released r 0 (address n U) links (count (a .since)) n)) (lent l ((s .standing .output ++ bs) ++ drop (length (s .standing .output ++ bs)) start))
           (S.withOutput (s .standing .output ++ bs) (S.withCalls k (S.withDefinitions (oldest (b + count U) (s .standing .definitions)) s)))) none (writes free gone bs q) in
           rw (test ∙ ap not e, released)

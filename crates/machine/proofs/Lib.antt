@@ -8,6 +8,7 @@ pub mod Stack
 pub mod Moves
 pub mod Represents
 pub mod Finds
+pub mod Showing
 pub mod Putting
 pub mod Opening
 pub mod Counting

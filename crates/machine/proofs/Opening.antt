@@ -138,17 +138,17 @@ module _ {n : ℕ} {older : List Definition} {whole start : List ℕ} {r : Run} 
   fs = h .frames
 
   rightIs : r .right ≡ address n (items n b fs)
-  rightIs = omega (arith, h .shows .stands .right)
+  rightIs = omega (arith, h .lies .stands .right)
 
   placeIs : {x : ℕ} (f : Places → ℕ) → f (placesOf r) ≡ x → f (places n b fs) ≡ x
   placeIs f e = ap f (sym (h .placesAre)) ∙ e
 
   widthBelow : width (items n b fs) ≤ n
-  widthBelow = omega (arith, h .shows .stands .right)
+  widthBelow = omega (arith, h .lies .stands .right)
 
   -- how many definitions stand
   pub stands : length (s .standing .definitions) ≡ b + count (items n b fs)
-  stands = ap length (h .shows .stands .definitions) ∙ omega (arith, length-append (definitionsOf (items n b fs)) older)
+  stands = ap length (h .lies .stands .definitions) ∙ omega (arith, length-append (definitionsOf (items n b fs)) older)
 
   -- `$`
   opened : r .charge + openPrice ≤ n
@@ -163,25 +163,25 @@ module _ {n : ℕ} {older : List Definition} {whole start : List ℕ} {r : Run} 
       let bs : List ℕ = r .right ∷ r .source .list ∷ packed (r .calls .hand) (r .calls .call) ∷ w ∷ [] in
       let small : r .source .list < 4294967296 = let q : r .source .list ≡ places n b fs .list = ap (λ (x : Places). x .list) (h .placesAre) in omega (arith, listBelow n b (h .cellsLent) fs widthBelow) in
       let cells : M.openAt r (r .calls .left) l ≡ placed (r .calls .left) bs l =
-      rw (cell-is (r .right) (omega (arith, h .shows .stands .right, h .cellsLent)), cell-is (r .source .list) small)
-      (threeSet l (r .calls .left) (r .right) (r .source .list) (packed (r .calls .hand) (r .calls .call)) (omega (arith, h .shows .stands .right, h .shows .stands .size))) in
+      rw (cell-is (r .right) (omega (arith, h .lies .stands .right, h .cellsLent)), cell-is (r .source .list) small)
+      (threeSet l (r .calls .left) (r .right) (r .source .list) (packed (r .calls .hand) (r .calls .call)) (omega (arith, h .lies .stands .right, h .lies .stands .size))) in
       subst (λ (x : List ℕ). Represents n older whole start (M.opened r) (lent x o) (S.withCalls (S.newCall (S.noting (S.charge s + openPrice) s) ∷ s .calls) (S.noting (S.charge s + openPrice) s)))
       (sym cells)
       (record {
         frames = collects [] [] w ∷ fs;
         valid = h .valid;
-        shows = record {
+        lies = record {
           stands = record {
             size = placedSize free h bs fit;
-            right = h .shows .stands .right;
-            cells = placedHigh free h bs fit ∙ h .shows .stands .cells;
-            definitions = h .shows .stands .definitions;
-            live = h .shows .stands .live;
+            right = h .lies .stands .right;
+            cells = placedHigh free h bs fit ∙ h .lies .stands .cells;
+            definitions = h .lies .stands .definitions;
+            live = h .lies .stands .live;
           };
-          read = h .shows .read;
-          scans = h .shows .scans;
-          most = rw (chargeIs free h, h .shows .most);
-          wrote = h .shows .wrote;
+          read = h .lies .read;
+          scans = h .lies .scans;
+          most = rw (chargeIs free h, h .lies .most);
+          wrote = h .lies .wrote;
         };
         cellsLent = h .cellsLent;
         ordered = fit;
@@ -224,9 +224,9 @@ module _ {n : ℕ} {older : List Definition} {whole start : List ℕ} {r : Run} 
       ap (λ (p : Places). p .left) (h .placesAre) ∙ leftIs n b fs ∙ ap length (x .is) ∙ omega (arith, length-append (x .before) (x .waits ∷ x .hand)) in
       let test : ltb (r .calls .hand) (r .calls .left) ≡ true = lt-ltb (r .calls .hand) (r .calls .left) (omega arith) in
       let count : cell (r .calls .left - (r .calls .hand + 1)) ≡ length (x .hand) =
-      cell-is (r .calls .left - (r .calls .hand + 1)) (omega (arith, h .cellsLent, h .shows .stands .right)) ∙ omega arith in
+      cell-is (r .calls .left - (r .calls .hand + 1)) (omega (arith, h .cellsLent, h .lies .stands .right)) ∙ omega arith in
       let tail : drop (r .calls .left) l ≡ w ∷ drop (r .calls .left + 1) l =
-      drop-cons l (r .calls .left) 0 (omega (arith, h .shows .stands .right, h .shows .stands .size)) ∙ ap (λ (k : ℕ). w ∷ drop k l) (sym (add-one (r .calls .left))) in
+      drop-cons l (r .calls .left) 0 (omega (arith, h .lies .stands .right, h .lies .stands .size)) ∙ ap (λ (k : ℕ). w ∷ drop k l) (sym (add-one (r .calls .left))) in
       let whole′ : l ≡ x .before ++ (x .waits ∷ (x .hand ++ (w ∷ drop (r .calls .left + 1) l))) =
       sym (take-append-drop (r .calls .left) l)
       ∙ ap (λ (t : List ℕ). t ++ drop (r .calls .left) l) (h .leftsAre ∙ x .is)
@@ -250,8 +250,8 @@ module _ {n : ℕ} {older : List Definition} {whole start : List ℕ} {r : Run} 
   endSize = go (ltb (r .calls .hand) (r .calls .left))
     where
       go : (t : Bool) → length (cond t (set l (r .calls .hand) (cell (r .calls .left - (r .calls .hand + 1)))) l) ≡ n
-      go true = length-set l (r .calls .hand) (cell (r .calls .left - (r .calls .hand + 1))) ∙ h .shows .stands .size
-      go false = h .shows .stands .size
+      go true = length-set l (r .calls .hand) (cell (r .calls .left - (r .calls .hand + 1))) ∙ h .lies .stands .size
+      go false = h .lies .stands .size
 
   endHigh : r .calls .hand < r .right → drop (r .right) (M.endArgument r l) ≡ drop (r .right) l
   endHigh e = go (ltb (r .calls .hand) (r .calls .left))
@@ -279,18 +279,18 @@ module _ {n : ℕ} {older : List Definition} {whole start : List ℕ} {r : Run} 
       record {
         frames = endArgument (x .next) fs;
         valid = endValid n b (x .next) fs c (h .valid);
-        shows = rw (el .0) (record {
+        lies = rw (el .0) (record {
           stands = record {
             size = endSize;
-            right = h .shows .stands .right;
-            cells = endHigh (omega (arith, x .at, x .left)) ∙ h .shows .stands .cells;
-            definitions = h .shows .stands .definitions;
-            live = h .shows .stands .live;
+            right = h .lies .stands .right;
+            cells = endHigh (omega (arith, x .at, x .left)) ∙ h .lies .stands .cells;
+            definitions = h .lies .stands .definitions;
+            live = h .lies .stands .live;
           };
-          read = h .shows .read;
-          scans = h .shows .scans;
-          most = rw (chargeIs free h, h .shows .most);
-          wrote = h .shows .wrote;
+          read = h .lies .read;
+          scans = h .lies .scans;
+          most = rw (chargeIs free h, h .lies .most);
+          wrote = h .lies .wrote;
         });
         cellsLent = h .cellsLent;
         ordered = fit;
@@ -350,7 +350,7 @@ module _ {n : ℕ} {older : List Definition} {whole start : List ℕ} {r : Run} 
           subst (λ (z : List Body). Simulates n older whole start (cond (eqb (r .source .list) nowhere) a c) (f z)) (sym (h .bodiesAre ∙ e)) (rw q (none (h .bodiesAre ∙ e)))
       go (B ∷ Bs) e =
           let p : Reads n (length older) fs = rw e (omega arith) in
-          let k : r .source .list < nowhere = omega (arith, listIs, listInside n (length older) (h .cellsLent) fs p (omega (arith, h .shows .stands .right)), h .cellsLent) in
+          let k : r .source .list < nowhere = omega (arith, listIs, listInside n (length older) (h .cellsLent) fs p (omega (arith, h .lies .stands .right)), h .cellsLent) in
           let q : eqb (r .source .list) nowhere ≡ false = ne-eqb (r .source .list) nowhere (λ (z : r .source .list ≡ nowhere). absurd (omega arith)) in
           subst (λ (z : List Body). Simulates n older whole start (cond (eqb (r .source .list) nowhere) a c) (f z)) (sym (h .bodiesAre ∙ e)) (rw q (some B Bs (h .bodiesAre ∙ e)))
 

@@ -4,7 +4,7 @@ use native.Mathlib.Omega.{arith}
 use mathlib.Core.Path.{_≡_, refl, sym, ap, subst, _∙_}
 use mathlib.Core.Bool.{Bool, true, false, cond}
 use mathlib.Core.List.{List, [], _∷_, _++_, append-nil}
-use lib.ListN.{length, drop, getD, set, length-append}
+use lib.ListN.{length, drop, getD, length-append}
 use lib.Seq.{drop-drop, drop-at}
 use lib.Dec.{eqb, ltb}
 use borrow.Author.Tests.{le-ltb, ne-eqb, ltb-true, ltb-false}
@@ -35,7 +35,7 @@ use Rattle.machine.proofs.Items.{encode-append, width-append}
 use Rattle.machine.proofs.Moves.{madeAll, madeLaid, madeBodies, madeValid}
 use Rattle.machine.proofs.Represents.{Simulates, goes, outputSize}
 use Rattle.machine.proofs.Finds.{HoldsItems, Defines, DefinitionAt, definition-at, ArgumentAt, argument-at, argument-past, Newest, absent, present, newest-finds, isRead-finds}
-use Rattle.machine.proofs.Fetching.{validNamed, block-low, each}
+use Rattle.machine.proofs.Fetching.{block-low, each}
 use Rattle.machine.proofs.Altering.{alter, alterItems, alter-append, alter-width, alter-count, alterLaid, alterLefts, alterCalls, alterBodies, alterValid, Spot, spotOf, stored, alterDefinitions, alterSize, alterHigh, alterLow}
 use Rattle.machine.proofs.Naming.{TextAt, namedOf, Own, unknown, known, builtIns-only, builtInNamed-is, calculate-is, answer-number, answer-refused}
 use Rattle.machine.proofs.Applying.{Applied, listOf}
@@ -90,7 +90,7 @@ module _ {n : ℕ} {whole start : List ℕ} {r : Run} {l o : List ℕ} {s : Stat
   gsLaid = madeLaid n b (a .since) (a .under) (a .definitions)
 
   holds : HoldsItems n l (r .right) (items n b gs)
-  holds = rw (gsLaid .0) (record { size = a .shows .stands .size; cellsLent = a .cellsLent; ends = a .shows .stands .right; cells = a .shows .stands .cells })
+  holds = rw (gsLaid .0) (record { size = a .lies .stands .size; cellsLent = a .cellsLent; ends = a .lies .stands .right; cells = a .lies .stands .cells })
 
   gsValid : Valid n b gs
   gsValid = madeValid n b (a .since) (a .under) (a .valid)
@@ -117,7 +117,7 @@ module _ {n : ℕ} {whole start : List ℕ} {r : Run} {l o : List ℕ} {s : Stat
           last (a .ended) (a .hand) (y .ended) (y .hand)
 
   priced : argumentsPrice list ≤ 65536
-  priced = omega (arith, a .leftIs, a .room, a .shows .stands .right, a .cellsLent)
+  priced = omega (arith, a .leftIs, a .room, a .lies .stands .right, a .cellsLent)
 
   -- argument k of the call, in the cells
   argumentIs : (k : ℕ) → k < length list → ArgumentAt l name list k (argument l name k)
@@ -129,12 +129,12 @@ module _ {n : ℕ} {whole start : List ℕ} {r : Run} {l o : List ℕ} {s : Stat
   textIs : (k : ℕ) → k < length list → TextAt l (argument l name k) (parameter k list)
   textIs k h =
       let x = argumentIs k h in
-      record { counted = x .counted; bytes = x .bytes; within = omega (arith, x .within, a .leftIs, a .room, a .shows .stands .right, a .shows .stands .size) }
+      record { counted = x .counted; bytes = x .bytes; within = omega (arith, x .within, a .leftIs, a .room, a .lies .stands .right, a .lies .stands .size) }
 
   there : (k : ℕ) → k < length list → eqb (argument l name k) nowhere ≡ false
   there k h =
       let x = argumentIs k h in
-      let z : argument l name k < nowhere = omega (arith, x .within, a .leftIs, a .room, a .shows .stands .right, a .cellsLent) in
+      let z : argument l name k < nowhere = omega (arith, x .within, a .leftIs, a .room, a .lies .stands .right, a .cellsLent) in
       ne-eqb (argument l name k) nowhere (λ (e : argument l name k ≡ nowhere). absurd (omega arith))
 
   named : 0 < length list
@@ -151,10 +151,10 @@ module _ {n : ℕ} {whole start : List ℕ} {r : Run} {l o : List ℕ} {s : Stat
 
   found′ : (q : ℕ) (t : Bytes) → TextAt l q t → Newest n b l (r .right) its t (newest l (r .right) (r .source .list) q)
   found′ q t x =
-      rw (gsLaid .0) at (newest-finds gs gsValid (validNamed n b gs gsValid) holds q t listGs (x .counted) (x .bytes) (omega (arith, x .within, a .shows .stands .size)))
+      rw (gsLaid .0) at (newest-finds gs gsValid holds q t listGs (x .counted) (x .bytes) (omega (arith, x .within, a .lies .stands .size)))
 
   definitionsAre : s .standing .definitions ≡ definitionsOf its ++ builtIns
-  definitionsAre = a .shows .stands .definitions
+  definitionsAre = a .lies .stands .definitions
 
   -- A body is read ---------------------------------------------------------------------------------------------------
 
@@ -200,8 +200,8 @@ module _ {n : ℕ} {whole start : List ℕ} {r : Run} {l o : List ℕ} {s : Stat
           let fit : from + length v ≤ n = omega (arith, at .within, at .cells .fits) in
           rw (ne-eqb d nowhere (λ (e : d ≡ nowhere). absurd (omega (arith, at .below))), g, at .cells .named, at .cells .valued)
           (giveSim builtIns-free a v (moved from (r .calls .call) (length v) l) (copied from (r .counts .written) (length v) (lowBytes l) o)
-          (λ e. moved-in from (r .calls .call) (length v) l (omega (arith, a .shows .stands .size)) (omega (arith, a .shows .stands .size, a .carried, a .leftIs, a .room, a .shows .stands .right)) ∙ ap (λ (y : List ℕ). placed (r .calls .call) y l) (at .cells .valueIs))
-          (λ e. copied-in from (r .counts .written) (length v) (lowBytes l) o (omega (arith, a .shows .stands .size, length-lowBytes l)) (omega (arith, outputSize (a .shows), a .shows .wrote .written)) ∙ ap (λ (y : List ℕ). placed (r .counts .written) y o) (block-low from v l (at .cells .valueIs) vo)))
+          (λ e. moved-in from (r .calls .call) (length v) l (omega (arith, a .lies .stands .size)) (omega (arith, a .lies .stands .size, a .carried, a .leftIs, a .room, a .lies .stands .right)) ∙ ap (λ (y : List ℕ). placed (r .calls .call) y l) (at .cells .valueIs))
+          (λ e. copied-in from (r .counts .written) (length v) (lowBytes l) o (omega (arith, a .lies .stands .size, length-lowBytes l)) (omega (arith, outputSize (a .lies), a .lies .wrote .written)) ∙ ap (λ (y : List ℕ). placed (r .counts .written) y o) (block-low from v l (at .cells .valueIs) vo)))
 
   -- UPDATE -----------------------------------------------------------------------------------------------------------
 
@@ -211,11 +211,11 @@ module _ {n : ℕ} {whole start : List ℕ} {r : Run} {l o : List ℕ} {s : Stat
       let I = defined (spot .free) (spot .name) v (spot .spare) in
       let w = width-append (spot .newer) (I ∷ spot .older) in
       let x : width its ≡ width (spot .newer ++ (I ∷ spot .older)) = ap width (spot .is) in
-      let e : d ≡ r .right + width (spot .newer) = omega (arith, spot .at, a .shows .stands .right) in
+      let e : d ≡ r .right + width (spot .newer) = omega (arith, spot .at, a .lies .stands .right) in
       definition-at l d (spot .free) (spot .name) v (spot .spare) (spot .older) []
       (ap (λ (j : ℕ). drop j l) e
       ∙ sym (drop-drop (width (spot .newer)) (r .right) l)
-      ∙ ap (drop (width (spot .newer))) (a .shows .stands .cells ∙ ap encode (spot .is) ∙ encode-append (spot .newer) (I ∷ spot .older))
+      ∙ ap (drop (width (spot .newer))) (a .lies .stands .cells ∙ ap encode (spot .is) ∙ encode-append (spot .newer) (I ∷ spot .older))
       ∙ drop-at (encode (spot .newer)) (encode (I ∷ spot .older)) (width (spot .newer)) refl
       ∙ sym (append-nil (encode (I ∷ spot .older))))
 
@@ -241,13 +241,13 @@ module _ {n : ℕ} {whole start : List ℕ} {r : Run} {l o : List ℕ} {s : Stat
       ap (λ (j : ℕ). withValueLength (moved (y + 1) (d + headSize + nameLength l d) j l) d j) (x .counted)
       ∙ ap (λ (j : ℕ). withValueLength (moved (y + 1) (d + headSize + j) (length w) l) d (length w)) (at .cells .named ∙ sym nameEq)
       ∙ ap (λ (j : List ℕ). withValueLength j d (length w))
-      (moved-in (y + 1) target (length w) l (x .within) (omega (arith, at .within, a .shows .stands .size)) ∙ ap (λ (j : List ℕ). placed target j l) (x .bytes)) in
+      (moved-in (y + 1) target (length w) l (x .within) (omega (arith, at .within, a .lies .stands .size)) ∙ ap (λ (j : List ℕ). placed target j l) (x .bytes)) in
       let fs′ = alter n b k w (a .under) in
       let A = alterItems k w (b + count U) (a .since) in
       let K = alterItems k w b U in
       let splitEq : alterItems k w b its ≡ A ++ K = alter-append k w b (a .since) U in
       let high′ : drop (r .right) l′ ≡ encode A ++ encode K =
-      alterHigh spot w fit (r .right) l (a .shows .stands .size) (a .shows .stands .right) (a .shows .stands .cells) ∙ ap encode splitEq ∙ encode-append A K in
+      alterHigh spot w fit (r .right) l (a .lies .stands .size) (a .lies .stands .right) (a .lies .stands .cells) ∙ ap encode splitEq ∙ encode-append A K in
       let widthA : width A ≡ width (a .since) = alter-width k w (b + count U) (a .since) in
       let toEq : r .right + width A ≡ address n U = omega (arith, rightTo a) in
       let hi : drop (address n U) l′ ≡ encode K =
@@ -269,8 +269,8 @@ module _ {n : ℕ} {whole start : List ℕ} {r : Run} {l o : List ℕ} {s : Stat
       (freed a fs′ l′ (oldest (b + count U) (altered k w (s .standing .definitions)))
       (alterValid n b k w (a .under) quiet₂ (a .valid))
       (al .1) (alterLefts n b k w (a .under)) (alterCalls n b k w (a .under)) (alterBodies n b k w (a .under))
-      (alterSize spot w fit (r .right) l (a .shows .stands .size) (a .shows .stands .right) (a .shows .stands .cells))
-      (alterLow spot w fit (r .right) l (a .shows .stands .size) (a .shows .stands .right) (a .shows .stands .cells) (r .calls .call) (omega (arith, a .leftIs, a .room)))
+      (alterSize spot w fit (r .right) l (a .lies .stands .size) (a .lies .stands .right) (a .lies .stands .cells))
+      (alterLow spot w fit (r .right) l (a .lies .stands .size) (a .lies .stands .right) (a .lies .stands .cells) (r .calls .call) (omega (arith, a .leftIs, a .room)))
       (ap width (al .0) ∙ alter-width k w b U)
       (hi ∙ ap encode (sym (al .0)))
       (ds ∙ ap (λ (j : List Item). definitionsOf j ++ builtIns) (sym (al .0)))
@@ -301,7 +301,7 @@ module _ {n : ℕ} {whole start : List ℕ} {r : Run} {l o : List ℕ} {s : Stat
 
       readEq : (d k : ℕ) (v : Bytes) → At n b its d k v → isRead l (r .source .list) (r .source .body) d ≡ among k busy
       readEq d k v at =
-          isRead-finds gs gsValid (validNamed n b gs gsValid) holds listGs bodyGs (subst (λ (j : List Item). At n b j d k v) (sym (gsLaid .0)) at)
+          isRead-finds gs gsValid holds listGs bodyGs (subst (λ (j : List Item). At n b j d k v) (sym (gsLaid .0)) at)
           ∙ ap (λ (j : List Body). among k (S.reading j)) (madeBodies n b (a .since) (a .under) ∙ sym (a .bodiesAre))
 
       go : (d : ℕ) → Newest n b l (r .right) its t d
@@ -347,8 +347,8 @@ module _ {n : ℕ} {whole start : List ℕ} {r : Run} {l o : List ℕ} {s : Stat
           let bs = shortest z in
           let bytes = (answerOf (number z)) .decimal .bytes in
           giveSim builtIns-free a bs (copied 0 (r .calls .call) (length bs) bytes l) (copied 0 (r .counts .written) (length bs) bytes o)
-          (λ q. copied-in 0 (r .calls .call) (length bs) bytes l (omega (arith, x .short, x .size)) (omega (arith, a .shows .stands .size, a .carried, a .leftIs, a .room, a .shows .stands .right)) ∙ ap (λ (y : List ℕ). placed (r .calls .call) y l) (x .bytes))
-          (λ q. copied-in 0 (r .counts .written) (length bs) bytes o (omega (arith, x .short, x .size)) (omega (arith, outputSize (a .shows), a .shows .wrote .written)) ∙ ap (λ (y : List ℕ). placed (r .counts .written) y o) (x .bytes))
+          (λ q. copied-in 0 (r .calls .call) (length bs) bytes l (omega (arith, x .short, x .size)) (omega (arith, a .lies .stands .size, a .carried, a .leftIs, a .room, a .lies .stands .right)) ∙ ap (λ (y : List ℕ). placed (r .calls .call) y l) (x .bytes))
+          (λ q. copied-in 0 (r .counts .written) (length bs) bytes o (omega (arith, x .short, x .size)) (omega (arith, outputSize (a .lies), a .lies .wrote .written)) ∙ ap (λ (y : List ℕ). placed (r .counts .written) y o) (x .bytes))
 
   -- A built-in -------------------------------------------------------------------------------------------------------
 

@@ -24,7 +24,8 @@ use Rattle.machine.specs.Machine.{After}
 use Rattle.machine.proofs.Stack.{noCall}
 use Rattle.machine.proofs.Moves.{collect, putHand, Collects, collectLaid, collectLefts, collectCalls, collectBodies, collectValid}
 use Rattle.machine.proofs.Represents.{Simulates, goes, stops, chargeIs, outputSize}
-use Rattle.machine.specs.Frames.{Places, Frame, made, collects, reads, laid, items, places, calls}
+use Rattle.machine.proofs.Showing.{stateShown}
+use Rattle.machine.specs.Frames.{Places, Frame, made, collects, reads, laid, places, calls}
 use Rattle.machine.specs.Held.{Represents}
 use Rattle.machine.proofs.Lists.{set-placed, overwrite}
 
@@ -55,7 +56,7 @@ module _ {n : ℕ} {older : List Definition} {whole start : List ℕ} {r : Run} 
 
   -- an outcome with nothing changed
   pub refusal : (k : ℕ) → Simulates n older whole start (M.ends k r (lent l o)) (S.ends k s)
-  refusal k = stops (record { answer = refl; its = items n b fs; shows = h .shows })
+  refusal k = stops (record { answer = refl; shows = stateShown h })
 
   -- bytes collected: they stand behind the left stack, and the right one is as it was
   pub collecting : (bs : Bytes) (l′ : List ℕ) → Collects n b fs → r .calls .left + length bs ≤ r .right
@@ -67,18 +68,18 @@ module _ {n : ℕ} {older : List Definition} {whole start : List ℕ} {r : Run} 
       record {
         frames = collect bs fs;
         valid = collectValid n b bs fs c (h .valid);
-        shows = rw (cl .0) (record {
+        lies = rw (cl .0) (record {
           stands = record {
             size = size;
-            right = h .shows .stands .right;
-            cells = hi ∙ h .shows .stands .cells;
-            definitions = h .shows .stands .definitions;
-            live = h .shows .stands .live;
+            right = h .lies .stands .right;
+            cells = hi ∙ h .lies .stands .cells;
+            definitions = h .lies .stands .definitions;
+            live = h .lies .stands .live;
           };
-          read = h .shows .read;
-          scans = h .shows .scans;
-          most = rw (ch, h .shows .most);
-          wrote = h .shows .wrote;
+          read = h .lies .read;
+          scans = h .lies .scans;
+          most = rw (ch, h .lies .most);
+          wrote = h .lies .wrote;
         });
         cellsLent = h .cellsLent;
         ordered = fit;
@@ -99,13 +100,13 @@ module _ {n : ℕ} {older : List Definition} {whole start : List ℕ} {r : Run} 
   writes bs fit = record {
     frames = fs;
     valid = h .valid;
-    shows = record {
-      stands = h .shows .stands;
-      read = h .shows .read;
-      scans = h .shows .scans;
-      most = h .shows .most;
+    lies = record {
+      stands = h .lies .stands;
+      read = h .lies .read;
+      scans = h .lies .scans;
+      most = h .lies .most;
       wrote = record {
-        written = omega (arith, h .shows .wrote .written, length-append (s .standing .output) bs);
+        written = omega (arith, h .lies .wrote .written, length-append (s .standing .output) bs);
         output = refl;
         enough = omega (arith, length-append (s .standing .output) bs);
       };
@@ -123,15 +124,15 @@ module _ {n : ℕ} {older : List Definition} {whole start : List ℕ} {r : Run} 
 
   -- the cells that are free
   pub roomIs : (k : ℕ) → r .charge + k ≤ n → r .calls .left + k ≤ r .right
-  roomIs k e = omega (arith, h .carried, h .shows .stands .right)
+  roomIs k e = omega (arith, h .carried, h .lies .stands .right)
 
   chargeBelow : r .charge ≤ n
-  chargeBelow = omega (arith, h .carried, h .ordered, h .shows .stands .right)
+  chargeBelow = omega (arith, h .carried, h .ordered, h .lies .stands .right)
 
   -- a block placed behind the left stack
   pub placedLow : (bs : Bytes) → r .calls .left + length bs ≤ r .right → take (r .calls .left + length bs) (placed (r .calls .left) bs l) ≡ take (r .calls .left) l ++ bs
   placedLow bs fit =
-      let e : length (take (r .calls .left) l) ≡ r .calls .left = length-take-le (r .calls .left) l (omega (arith, h .shows .stands .right, h .shows .stands .size)) in
+      let e : length (take (r .calls .left) l) ≡ r .calls .left = length-take-le (r .calls .left) l (omega (arith, h .lies .stands .right, h .lies .stands .size)) in
       let q : r .calls .left + length bs ≡ length (take (r .calls .left) l ++ bs) = omega (arith, length-append (take (r .calls .left) l) bs) in
       ap (take (r .calls .left + length bs)) (sym (append-assoc (take (r .calls .left) l) bs (drop (r .calls .left + length bs) l)))
       ∙ take-at (take (r .calls .left) l ++ bs) (drop (r .calls .left + length bs) l) (r .calls .left + length bs) (sym q)
@@ -141,7 +142,7 @@ module _ {n : ℕ} {older : List Definition} {whole start : List ℕ} {r : Run} 
       let m = r .right - (r .calls .left + length bs) in
       let q : r .calls .left + length bs + m ≡ r .right = omega arith in
       let p : drop (r .calls .left + length bs) (placed (r .calls .left) bs l) ≡ drop (r .calls .left + length bs) l =
-      drop-past-placed (r .calls .left) bs l (omega (arith, h .shows .stands .right, h .shows .stands .size)) in
+      drop-past-placed (r .calls .left) bs l (omega (arith, h .lies .stands .right, h .lies .stands .size)) in
       ap (λ (x : ℕ). drop x (placed (r .calls .left) bs l)) (sym q)
       ∙ sym (drop-drop m (r .calls .left + length bs) (placed (r .calls .left) bs l))
       ∙ ap (drop m) p
@@ -149,7 +150,7 @@ module _ {n : ℕ} {older : List Definition} {whole start : List ℕ} {r : Run} 
       ∙ ap (λ (x : ℕ). drop x l) q
 
   pub placedSize : (bs : Bytes) → r .calls .left + length bs ≤ r .right → length (placed (r .calls .left) bs l) ≡ n
-  placedSize bs fit = placed-length (r .calls .left) bs l (omega (arith, h .shows .stands .right, h .shows .stands .size)) ∙ h .shows .stands .size
+  placedSize bs fit = placed-length (r .calls .left) bs l (omega (arith, h .lies .stands .right, h .lies .stands .size)) ∙ h .lies .stands .size
 
   pub collectsPlaced : (bs : Bytes) → Collects n b fs → r .charge + length bs ≤ n
       → Represents n older whole start (M.collected (length bs) r) (lent (placed (r .calls .left) bs l) o)
@@ -167,13 +168,13 @@ module _ {n : ℕ} {older : List Definition} {whole start : List ℕ} {r : Run} 
   pub charging : (k : ℕ) {a : After} {t : Step} → (r .charge + k ≤ n → Simulates n older whole start a t)
       → Simulates n older whole start (cond (ltb (length l - r .charge) k) (M.ends Outcomes.noCellsLeft r (lent l o)) a) (cond (leb (S.charge s + k) n) t (S.ends Outcomes.noCellsLeft s))
   charging k {a} {t} go =
-      let e : ltb (length l - r .charge) k ≡ not (leb (r .charge + k) n) = rw (h .shows .stands .size) (roomTest n (r .charge) k chargeBelow) in
+      let e : ltb (length l - r .charge) k ≡ not (leb (r .charge + k) n) = rw (h .lies .stands .size) (roomTest n (r .charge) k chargeBelow) in
       rw (e, chargeIs free h) (pick (leb (r .charge + k) n) (λ q. go (leb-true (r .charge + k) n q)) (refusal Outcomes.noCellsLeft))
 
   pub chargingOne : {a : After} {t : Step} → (r .charge + 1 ≤ n → Simulates n older whole start a t)
       → Simulates n older whole start (cond (leb (length l) (r .charge)) (M.ends Outcomes.noCellsLeft r (lent l o)) a) (cond (leb (S.charge s + 1) n) t (S.ends Outcomes.noCellsLeft s))
   chargingOne {a} {t} go =
-      let e : leb (length l) (r .charge) ≡ not (leb (r .charge + 1) n) = rw (h .shows .stands .size) (oneTest n (r .charge)) in
+      let e : leb (length l) (r .charge) ≡ not (leb (r .charge + 1) n) = rw (h .lies .stands .size) (oneTest n (r .charge)) in
       rw (e, chargeIs free h) (pick (leb (r .charge + 1) n) (λ q. go (leb-true (r .charge + 1) n q)) (refusal Outcomes.noCellsLeft))
 
   -- and where that of the output does
@@ -183,7 +184,7 @@ module _ {n : ℕ} {older : List Definition} {whole start : List ℕ} {r : Run} 
   writing k {a} {t} go =
       let w = length (s .standing .output) in
       let e : ltb (length o - r .counts .written) k ≡ not (leb (w + k) (length start)) =
-      rw (outputSize (h .shows), h .shows .wrote .written) (roomTest (length start) w k (h .shows .wrote .enough)) in
+      rw (outputSize (h .lies), h .lies .wrote .written) (roomTest (length start) w k (h .lies .wrote .enough)) in
       rw e (pick (leb (w + k) (length start)) (λ q. go (leb-true (w + k) (length start) q)) (refusal Outcomes.noOutputLeft))
 
   pub writingOne : {a : After} {t : Step} → (length (s .standing .output) + 1 ≤ length start → Simulates n older whole start a t)
@@ -191,7 +192,7 @@ module _ {n : ℕ} {older : List Definition} {whole start : List ℕ} {r : Run} 
       (cond (leb (length (s .standing .output) + 1) (length start)) t (S.ends Outcomes.noOutputLeft s))
   writingOne {a} {t} go =
       let w = length (s .standing .output) in
-      let e : leb (length o) (r .counts .written) ≡ not (leb (w + 1) (length start)) = rw (outputSize (h .shows), h .shows .wrote .written) (oneTest (length start) w) in
+      let e : leb (length o) (r .counts .written) ≡ not (leb (w + 1) (length start)) = rw (outputSize (h .lies), h .lies .wrote .written) (oneTest (length start) w) in
       rw e (pick (leb (w + 1) (length start)) (λ q. go (leb-true (w + 1) (length start) q)) (refusal Outcomes.noOutputLeft))
 
 -- the innermost call has a head of four cells
@@ -211,7 +212,7 @@ module _ {n : ℕ} {older : List Definition} {whole start : List ℕ} {r : Run} 
   callIs c =
       let e : r .calls .call ≡ places n (length older) (h .frames) .call = ap (λ (p : Places). p .call) (h .placesAre) in
       let g : r .calls .left ≡ places n (length older) (h .frames) .left = ap (λ (p : Places). p .left) (h .placesAre) in
-      let k : r .calls .call < nowhere = omega (arith, callBefore n (length older) (h .frames) c, h .ordered, h .shows .stands .right, h .cellsLent) in
+      let k : r .calls .call < nowhere = omega (arith, callBefore n (length older) (h .frames) c, h .ordered, h .lies .stands .right, h .cellsLent) in
       ne-eqb (r .calls .call) nowhere (λ q. absurd (omega arith))
 
   -- bytes that go to the call, or to the output: whatever forms the tests have
@@ -235,8 +236,8 @@ module _ {n : ℕ} {older : List Definition} {whole start : List ℕ} {r : Run} 
   placedOutput : (bs : Bytes) → length (s .standing .output) + length bs ≤ length start
       → placed (r .counts .written) bs o ≡ (s .standing .output ++ bs) ++ drop (length (s .standing .output ++ bs)) start
   placedOutput bs e =
-      ap (λ (x : ℕ). placed x bs o) (h .shows .wrote .written)
-      ∙ ap (placed (length (s .standing .output)) bs) (h .shows .wrote .output)
+      ap (λ (x : ℕ). placed x bs o) (h .lies .wrote .written)
+      ∙ ap (placed (length (s .standing .output)) bs) (h .lies .wrote .output)
       ∙ overwrite (s .standing .output) start bs e
 
   writesPlaced : (bs : Bytes) → length (s .standing .output) + length bs ≤ length start
@@ -250,11 +251,11 @@ module _ {n : ℕ} {older : List Definition} {whole start : List ℕ} {r : Run} 
   putByte x =
       putSim (x ∷ []) (M.collect r x (lent l o)) (M.write r x (lent l o))
       (λ c. chargingOne free h λ e.
-      let fit : r .calls .left < length l = omega (arith, h .carried, h .shows .stands .right, h .shows .stands .size) in
+      let fit : r .calls .left < length l = omega (arith, h .carried, h .lies .stands .right, h .lies .stands .size) in
       subst (λ (z : List ℕ). Simulates n older whole start (M.goes (M.collected 1 r) (lent z o)) (next (S.withCalls (putHand (x ∷ []) (s .calls)) (S.noting (S.charge s + 1) s))))
       (sym (set-placed l (r .calls .left) x fit)) (goes refl (collectsPlaced free h (x ∷ []) c e)))
       (writingOne free h λ e.
-      let fit : r .counts .written < length o = omega (arith, outputSize (h .shows), h .shows .wrote .written) in
+      let fit : r .counts .written < length o = omega (arith, outputSize (h .lies), h .lies .wrote .written) in
       subst (λ (z : List ℕ). Simulates n older whole start (M.goes (M.wrote 1 r) (lent l z)) (next (S.withOutput (s .standing .output ++ (x ∷ [])) s)))
       (sym (set-placed o (r .counts .written) x fit)) (writesPlaced (x ∷ []) e))
 
@@ -265,11 +266,11 @@ module _ {n : ℕ} {older : List Definition} {whole start : List ℕ} {r : Run} 
       putSim bs (M.collectBlock r from (length bs) (lent l o)) (M.writeBlock r from (length bs) (lent l o))
       (λ c. charging free h (length bs) λ e.
       let q : moved from (r .calls .left) (length bs) l ≡ placed (r .calls .left) bs l =
-      moved-in from (r .calls .left) (length bs) l (omega (arith, h .shows .stands .size)) (omega (arith, h .carried, h .shows .stands .right, h .shows .stands .size)) ∙ ap (λ (z : List ℕ). placed (r .calls .left) z l) is in
+      moved-in from (r .calls .left) (length bs) l (omega (arith, h .lies .stands .size)) (omega (arith, h .carried, h .lies .stands .right, h .lies .stands .size)) ∙ ap (λ (z : List ℕ). placed (r .calls .left) z l) is in
       subst (λ (z : List ℕ). Simulates n older whole start (M.goes (M.collected (length bs) r) (lent z o)) (next (S.withCalls (putHand bs (s .calls)) (S.noting (S.charge s + length bs) s))))
       (sym q) (goes refl (collectsPlaced free h bs c e)))
       (writing free h (length bs) λ e.
       let q : copied from (r .counts .written) (length bs) (lowBytes l) o ≡ placed (r .counts .written) bs o =
-      copied-in from (r .counts .written) (length bs) (lowBytes l) o (omega (arith, h .shows .stands .size, length-lowBytes l)) (omega (arith, outputSize (h .shows), h .shows .wrote .written)) ∙ ap (λ (z : List ℕ). placed (r .counts .written) z o) low in
+      copied-in from (r .counts .written) (length bs) (lowBytes l) o (omega (arith, h .lies .stands .size, length-lowBytes l)) (omega (arith, outputSize (h .lies), h .lies .wrote .written)) ∙ ap (λ (z : List ℕ). placed (r .counts .written) z o) low in
       subst (λ (z : List ℕ). Simulates n older whole start (M.goes (M.wrote (length bs) r) (lent l z)) (next (S.withOutput (s .standing .output ++ bs) s)))
       (sym q) (writesPlaced bs e))

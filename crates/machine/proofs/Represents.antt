@@ -18,15 +18,15 @@ use Rattle.machine.specs.Machine.{After}
 use Rattle.machine.proofs.Items.{list-size, definition-size, width-append, width-cons, definitions-append}
 use Rattle.machine.specs.Items.{Item, defined, listed, encode, width, definitionsOf, Definitions}
 use Rattle.machine.specs.Frames.{Places, Frame, made, collects, reads, address, listItem, laid, items, places, calls, bodies, Valid}
-use Rattle.machine.specs.Held.{Shows, EndsAs, Represents}
+use Rattle.machine.specs.Held.{Lies, EndsAs, Represents}
 
 pub data Simulates (n : ℕ) (older : List Definition) (whole start : List ℕ) (a : After) : Step → Type 0 where
   goes : {s : State} → a .answer ≡ GoesOn → Represents n older whole start (a .run) (a .lent) s → Simulates n older whole start a (next s)
-  stops : {e : End} → EndsAs n older start a e → Simulates n older whole start a (stop e)
+  stops : {e : End} → EndsAs older start a e → Simulates n older whole start a (stop e)
 
 -- the output is as long as it was lent
 pub outputSize : {n : ℕ} {older : List Definition} {start : List ℕ} {its : List Item} {r : Run} {m : Lent} {w : Standing}
-    → Shows n older start its r m w → length (m .output) ≡ length start
+    → Lies n older start its r m w → length (m .output) ≡ length start
 outputSize {start = start} {w = w} h =
     ap length (h .wrote .output)
     ∙ omega (arith, length-append (w .output) (drop (length (w .output)) start), length-drop (length (w .output)) start, h .wrote .enough)
@@ -82,9 +82,9 @@ chargeIs {n} {older} z h =
       callsCharge n b f,
       ap S.bodiesCharge (h .bodiesAre),
       rightCharge n b f (h .valid),
-      ap definitionsPrice (h .shows .stands .definitions),
+      ap definitionsPrice (h .lies .stands .definitions),
       price-append (definitionsOf (items n b f)) older,
       ap (λ (p : Places). p .left) (h .placesAre),
-      h .shows .stands .right,
+      h .lies .stands .right,
       h .carried,
     )

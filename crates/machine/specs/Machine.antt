@@ -117,10 +117,10 @@ pub record Sound (n : ℕ) (r : Run) : Type 0 where
   pub ordered : r .calls .left ≤ r .right
   pub inside : r .right ≤ n
   pub carried : r .charge + r .right ≡ r .calls .left + n
-  pub callBelow : r .calls .call ≤ 65535
-  pub handBelow : r .calls .hand ≤ 65536
-  pub listBelow : r .source .list ≤ 65535
-  pub bodyBelow : r .source .body ≤ 65535
+  pub callBelow : r .calls .call ≤ nowhere
+  pub handBelow : r .calls .hand ≤ cellsLimit
+  pub listBelow : r .source .list ≤ nowhere
+  pub bodyBelow : r .source .body ≤ nowhere
   pub offsetBelow : r .source .offset ≤ 4294967296
   pub quotesBelow : r .quotes < r .counts .scans
   pub liveBelow : r .counts .live ≤ cellsLimit
@@ -140,9 +140,9 @@ pub record Marked (n : ℕ) (r : Run) : Type 0 where
   pub ordered : r .calls .left < r .right
   pub inside : r .right ≤ n
   pub carried : r .charge + r .right ≡ r .calls .left + 1 + n
-  pub callBelow : r .calls .call ≤ 65535
-  pub listBelow : r .source .list ≤ 65535
-  pub bodyBelow : r .source .body ≤ 65535
+  pub callBelow : r .calls .call ≤ nowhere
+  pub listBelow : r .source .list ≤ nowhere
+  pub bodyBelow : r .source .body ≤ nowhere
   pub offsetBelow : r .source .offset ≤ 4294967296
   pub quotesBelow : r .quotes ≤ r .counts .scans
   pub liveBelow : r .counts .live ≤ cellsLimit

@@ -12,16 +12,17 @@ use Rattle.language.specs.Expansion.{Lent, limitsOf}
 use Rattle.machine.specs.declared.run.Run.{Run}
 use Rattle.machine.specs.declared.run.Answer.the-variants.{GoesOn, Refused}
 use Rattle.machine.specs.declared.run.Stepped.{Stepped}
+use Rattle.machine.specs.Walks.{nowhere}
 use Rattle.machine.specs.Machine.{lastScan, InRange, leaves}
 use Rattle.machine.specs.Held.{Represents, EndsAs}
 
 -- the tests of a standing in n cells and k bytes of output
 abbrev pub placesBelow : Run → Bool
 placesBelow r =
-    cond (ltb 65535 (r .calls .call)) false
-    (cond (ltb 65536 (r .calls .hand)) false
-    (cond (ltb 65535 (r .source .list)) false
-    (cond (ltb 65535 (r .source .body)) false
+    cond (ltb nowhere (r .calls .call)) false
+    (cond (ltb cellsLimit (r .calls .hand)) false
+    (cond (ltb nowhere (r .source .list)) false
+    (cond (ltb nowhere (r .source .body)) false
     (cond (ltb 4294967296 (r .source .offset)) false (leb (r .quotes) (r .counts .scans))))))
 
 abbrev pub isInRange : Run → ℕ → ℕ → Bool
@@ -44,7 +45,7 @@ pub record Holds (text start : Bytes) (r : Run) (m : Lent) (s : State) : Type 0 
 -- what the call leaves is what the scans came to: a state that goes on, or an end
 abbrev pub Comes : Bytes → Bytes → Stepped → Lent → Step → Type 0
 Comes text start st m (next s) = (st .answer ≡ GoesOn) × Holds text start (st .run) m s
-Comes text start st m (stop e) = EndsAs (length (m .cells)) builtIns start (leaves st m) e
+Comes text start st m (stop e) = EndsAs builtIns start (leaves st m) e
 
 -- no scan is made past the largest count
 abbrev pub portion : ℕ → ℕ → ℕ

@@ -10,6 +10,7 @@ ghost use mathlib.Core.Path.{_≡_};
 ghost use mathlib.Core.List.{List};
 ghost use Prim.Native.Nat.{ℕ, _+_, _≤_, _<_};
 ghost use lib.ListN.{length};
+ghost use Rattle.language.specs.Signs.{cellsLimit};
 ghost use Rattle.language.specs.Expansion.{lent};
 ghost use Rattle.machine.specs.Walks.{listOverhead};
 ghost use Rattle.machine.specs.Machine.{Sound, Marked, leaves, bodyBegun, listMoved, readBody, applyMarked, applyCall, apply};
@@ -76,7 +77,7 @@ impl Run {
     }
 
     fn move_list(self, list: usize, size: usize, cells: &mut [u32])
-        requires { ⌜ (list ≤ 65536) × (listOverhead ≤ size) ⌝ }
+        requires { ⌜ (list ≤ cellsLimit) × (listOverhead ≤ size) ⌝ }
         ensures { λ _. ⌜ now (cells .exit) ≡ listMoved self list size (now (cells .entry)) ⌝ }
     {
         let links = layout::packed(size - layout::LIST_OVERHEAD, self.source.list);

@@ -14,13 +14,15 @@ ghost use mathlib.Core.Path.{_≡_};
 ghost use mathlib.Core.List.{List};
 ghost use Prim.Native.Nat.{ℕ, _+_, _≤_, _<_};
 ghost use lib.ListN.{length};
+ghost use Rattle.language.specs.Signs.{cellsLimit};
 ghost use Rattle.language.specs.Expansion.{lent};
+ghost use Rattle.machine.specs.Walks.{nowhere};
 ghost use Rattle.machine.specs.Machine.{Marked, leaves, release, releaseTo, released, defined, defineIn, def, refuseName, val, updateIn, update, perform, supplied, applyBuiltIn};
 
 impl Run {
     // 15 for a name that is none of theirs.
     pub(crate) fn apply_built_in(self, name: usize, cells: &mut [u32], output: &mut [u8]) -> Stepped
-        requires { ⌜ (Marked (length (now cells)) self) × (self .counts .written ≤ length (now output)) × (name ≤ 65540) ⌝ }
+        requires { ⌜ (Marked (length (now cells)) self) × (self .counts .written ≤ length (now output)) × (name ≤ cellsLimit + 4) ⌝ }
         ensures { λ r. ⌜ leaves r (lent (now (cells .exit)) (now (output .exit))) ≡ applyBuiltIn self name (lent (now (cells .entry)) (now (output .entry))) ⌝ }
     {
         let named = operands::built_in(cells, name);
@@ -38,7 +40,7 @@ impl Run {
         cells: &mut [u32],
         output: &mut [u8],
     ) -> Stepped
-        requires { ⌜ (Marked (length (now cells)) self) × (self .counts .written ≤ length (now output)) × (name ≤ 65540) ⌝ }
+        requires { ⌜ (Marked (length (now cells)) self) × (self .counts .written ≤ length (now output)) × (name ≤ cellsLimit + 4) ⌝ }
         ensures { λ r. ⌜ leaves r (lent (now (cells .exit)) (now (output .exit))) ≡ supplied self built_in name (lent (now (cells .entry)) (now (output .entry))) ⌝ }
     {
         if lookup::argument(cells, name, built_in.needs()) == Run::NOWHERE {
@@ -54,7 +56,7 @@ impl Run {
         cells: &mut [u32],
         output: &mut [u8],
     ) -> Stepped
-        requires { ⌜ (Marked (length (now cells)) self) × (self .counts .written ≤ length (now output)) × (name ≤ 65540) ⌝ }
+        requires { ⌜ (Marked (length (now cells)) self) × (self .counts .written ≤ length (now output)) × (name ≤ cellsLimit + 4) ⌝ }
         ensures { λ r. ⌜ leaves r (lent (now (cells .exit)) (now (output .exit))) ≡ perform self built_in name (lent (now (cells .entry)) (now (output .entry))) ⌝ }
     {
         let first = lookup::argument(cells, name, 1);
@@ -72,7 +74,7 @@ impl Run {
 
     // The call ends: its list goes, with what was defined since its `$`; `kept` cells stand in place of the list.
     pub(crate) fn release(self, kept: usize, cells: &[u32]) -> Stepped
-        requires { ⌜ (length (now cells) ≤ 65536) × (self .right ≤ 65536) × (self .calls .call ≤ 65535) × (kept ≤ 65536) ⌝ }
+        requires { ⌜ (length (now cells) ≤ cellsLimit) × (self .right ≤ cellsLimit) × (self .calls .call ≤ nowhere) × (kept ≤ cellsLimit) ⌝ }
         ensures { λ r. ⌜ ((o : List ℕ) → leaves r (lent (now (cells .entry)) o) ≡ release self kept (lent (now (cells .entry)) o)) ⌝ }
     {
         let call = self.calls.call;
@@ -83,7 +85,7 @@ impl Run {
     }
 
     fn release_to(self, kept: usize, to: usize, around: u32, gone: usize, len: usize) -> Stepped
-        requires { ⌜ (len ≤ 65536) × (self .calls .call ≤ 65535) × (kept ≤ 65536) ⌝ }
+        requires { ⌜ (len ≤ cellsLimit) × (self .calls .call ≤ nowhere) × (kept ≤ cellsLimit) ⌝ }
         ensures { λ r. ⌜ ((l o : List ℕ) → length l ≡ len → leaves r (lent l o) ≡ releaseTo self kept to around gone (lent l o)) ⌝ }
     {
         if to < self.right {
@@ -102,7 +104,7 @@ impl Run {
     }
 
     fn released(mut self, kept: usize, to: usize, around: u32, gone: usize, len: usize) -> Run
-        requires { ⌜ (len ≤ 65536) × (to ≤ len) × (self .calls .call ≤ 65535) × (kept ≤ 65536) × (gone ≤ self .counts .live) ⌝ }
+        requires { ⌜ (len ≤ cellsLimit) × (to ≤ len) × (self .calls .call ≤ nowhere) × (kept ≤ cellsLimit) × (gone ≤ self .counts .live) ⌝ }
         ensures { λ r. ⌜ r ≡ released self kept to around gone len ⌝ }
     {
         let left = self.calls.call + kept;
@@ -144,7 +146,7 @@ impl Run {
         bytes: usize,
         cells: &mut [u32],
     ) -> Stepped
-        requires { ⌜ (name ≤ 8589934592) × (value ≤ 8589934592) × (letters ≤ 4294967296) × (bytes ≤ 4294967296) × (self .calls .left ≤ 4294967296) × (self .right ≤ 65536) × (self .charge ≤ 4294967296) ⌝ }
+        requires { ⌜ (name ≤ 8589934592) × (value ≤ 8589934592) × (letters ≤ 4294967296) × (bytes ≤ 4294967296) × (self .calls .left ≤ 4294967296) × (self .right ≤ cellsLimit) × (self .charge ≤ 4294967296) ⌝ }
         ensures { λ r. ⌜ ((o : List ℕ) → leaves r (lent (now (cells .exit)) o) ≡ defineIn self name value letters bytes (lent (now (cells .entry)) o)) ⌝ }
     {
         let size = layout::HEAD_SIZE + letters + bytes;
@@ -162,7 +164,7 @@ impl Run {
     }
 
     fn defined(mut self, size: usize) -> Run
-        requires { ⌜ (size ≤ self .right) × (self .charge + size < 18446744073709551616) × (self .counts .live < 65536) ⌝ }
+        requires { ⌜ (size ≤ self .right) × (self .charge + size < 18446744073709551616) × (self .counts .live < cellsLimit) ⌝ }
         ensures { λ r. ⌜ r ≡ defined self size ⌝ }
     {
         let live = self.counts.live + 1;

@@ -10,6 +10,7 @@ ghost use mathlib.Core.List.{List};
 ghost use Prim.Native.Nat.{ℕ, _≤_};
 ghost use lib.ListN.{length};
 ghost use Rattle.language.specs.Expansion.{lent};
+ghost use Rattle.machine.specs.Walks.{nowhere};
 ghost use Rattle.machine.specs.Machine.{Marked, leaves, isOuter, giveIn, giveOut, give, placeBlock, placeText, giveBlock, giveText, giveAnswer};
 
 impl Run {
@@ -54,7 +55,7 @@ impl Run {
     }
 
     fn place_text(self, bytes: &[u8; 11], count: usize, cells: &mut [u32], output: &mut [u8])
-        requires { ⌜ self .calls .call ≤ 65535 ⌝ }
+        requires { ⌜ self .calls .call ≤ nowhere ⌝ }
         ensures { λ _. ⌜ lent (now (cells .exit)) (now (output .exit)) ≡ placeText self (now (bytes .entry)) count (lent (now (cells .entry)) (now (output .entry))) ⌝ }
     {
         if self.is_outer(cells) {
@@ -85,7 +86,7 @@ impl Run {
     }
 
     fn place_block(self, from: usize, count: usize, cells: &mut [u32], output: &mut [u8])
-        requires { ⌜ self .calls .call ≤ 65535 ⌝ }
+        requires { ⌜ self .calls .call ≤ nowhere ⌝ }
         ensures { λ _. ⌜ lent (now (cells .exit)) (now (output .exit)) ≡ placeBlock self from count (lent (now (cells .entry)) (now (output .entry))) ⌝ }
     {
         if self.is_outer(cells) {
@@ -128,7 +129,7 @@ impl Run {
 
     // Whether no call stands around the one that is applied.
     fn is_outer(self, cells: &[u32]) -> bool
-        requires { ⌜ self .calls .call ≤ 65535 ⌝ }
+        requires { ⌜ self .calls .call ≤ nowhere ⌝ }
         ensures { λ r. ⌜ r ≡ isOuter self (now (cells .entry)) ⌝ }
     {
         layout::low(layout::return_link(cells, self.calls.call)) == Run::NOWHERE

@@ -2,13 +2,14 @@
 use crate::layout;
 use crate::run::Run;
 ghost use mathlib.Core.Path.{_≡_};
-ghost use Prim.Native.Nat.{_≤_, _<_};
+ghost use Prim.Native.Nat.{_+_, _≤_};
 ghost use lib.ListN.{length};
-ghost use Rattle.machine.specs.Walks.{argument, size, isNamed, nextPosition, nextList, newest, definitions, isRead};
+ghost use Rattle.language.specs.Signs.{cellsLimit};
+ghost use Rattle.machine.specs.Walks.{nowhere, argument, size, isNamed, nextPosition, nextList, newest, definitions, isRead};
 
 // The length cell of an argument of a list, counted from the one at `from`.
 pub(crate) fn argument(cells: &[u32], from: usize, index: usize) -> usize
-    requires { ⌜ (from ≤ 65540) × (index ≤ 65535) ⌝ }
+    requires { ⌜ (from ≤ cellsLimit + 4) × (index ≤ nowhere) ⌝ }
     ensures { λ r. ⌜ (r ≡ argument (now (cells .entry)) from index) × (r ≤ 8589934592) ⌝ }
 {
     let mut due = index;
@@ -35,7 +36,7 @@ pub struct Place {
 
 // The newest definition with the name at a length cell.
 pub(crate) fn newest(cells: &[u32], right: usize, list: usize, name: usize) -> usize
-    requires { ⌜ (length (now cells) ≤ 65536) × (right ≤ 65536) × (name ≤ 8589934592) ⌝ }
+    requires { ⌜ (length (now cells) ≤ cellsLimit) × (right ≤ cellsLimit) × (name ≤ 8589934592) ⌝ }
     ensures { λ r. ⌜ r ≡ newest (now (cells .entry)) right list name ⌝ }
 {
     let count = memory::read(cells, name) as usize;
@@ -60,7 +61,7 @@ pub(crate) fn newest(cells: &[u32], right: usize, list: usize, name: usize) -> u
 
 // Whether a definition stands here and has this name.
 fn is_named(cells: &[u32], place: Place, name: usize, count: usize) -> bool
-    requires { ⌜ (place .position ≤ 65536) × (name ≤ 8589934592) ⌝ }
+    requires { ⌜ (place .position ≤ cellsLimit) × (name ≤ 8589934592) ⌝ }
     ensures { λ r. ⌜ r ≡ isNamed (now (cells .entry)) (place .position) (place .list) name count ⌝ }
 {
     let position = place.position;
@@ -76,7 +77,7 @@ fn is_named(cells: &[u32], place: Place, name: usize, count: usize) -> bool
 
 // The item behind this one.
 fn next_item(cells: &[u32], place: Place) -> Place
-    requires { ⌜ place .position ≤ 65536 ⌝ }
+    requires { ⌜ place .position ≤ cellsLimit ⌝ }
     ensures { λ r. ⌜ (r .position ≡ nextPosition (now (cells .entry)) (place .position) (place .list)) × (r .list ≡ nextList (now (cells .entry)) (place .position) (place .list)) ⌝ }
 {
     let position = place.position;
@@ -104,7 +105,7 @@ fn size(cells: &[u32], definition: usize) -> usize
 
 // How many definitions stand from one position to another.
 pub(crate) fn definitions(cells: &[u32], from: usize, to: usize) -> usize
-    requires { ⌜ (length (now cells) ≤ 65536) × (from ≤ 4294967296) × (to ≤ 4294967296) ⌝ }
+    requires { ⌜ (length (now cells) ≤ cellsLimit) × (from ≤ 4294967296) × (to ≤ 4294967296) ⌝ }
     ensures { λ r. ⌜ r ≡ definitions (now (cells .entry)) from to ⌝ }
 {
     let mut turns = cells.len();
@@ -123,7 +124,7 @@ pub(crate) fn definitions(cells: &[u32], from: usize, to: usize) -> usize
 
 // Whether the body of a definition is being read.
 pub(crate) fn is_read(cells: &[u32], innermost: usize, reading: usize, definition: usize) -> bool
-    requires { ⌜ innermost ≤ 65535 ⌝ }
+    requires { ⌜ innermost ≤ nowhere ⌝ }
     ensures { λ r. ⌜ r ≡ isRead (now (cells .entry)) innermost reading definition ⌝ }
 {
     let mut turns = cells.len();

@@ -6,13 +6,14 @@ ghost use mathlib.Core.Path.{_≡_};
 ghost use mathlib.Core.List.{List};
 ghost use Prim.Native.Nat.{ℕ, _≤_};
 ghost use lib.ListN.{length};
+ghost use Rattle.language.specs.Signs.{cellsLimit};
 ghost use Rattle.language.specs.Expansion.{lent};
 ghost use Rattle.machine.specs.Machine.{Sound, leaves, write, collect, put, writeBlock, collectBlock, copy};
 
 impl Run {
     // One byte.
     pub(crate) fn put(self, byte: u8, cells: &mut [u32], output: &mut [u8]) -> Stepped
-        requires { ⌜ (self .calls .left ≤ 65536) × (self .charge ≤ 65536) × (self .counts .written ≤ length (now output)) ⌝ }
+        requires { ⌜ (self .calls .left ≤ cellsLimit) × (self .charge ≤ cellsLimit) × (self .counts .written ≤ length (now output)) ⌝ }
         ensures { λ r. ⌜ leaves r (lent (now (cells .exit)) (now (output .exit))) ≡ put self byte (lent (now (cells .entry)) (now (output .entry))) ⌝ }
     {
         if self.calls.call == Run::NOWHERE {
@@ -33,7 +34,7 @@ impl Run {
     }
 
     fn collect(self, byte: u8, cells: &mut [u32]) -> Stepped
-        requires { ⌜ (self .calls .left ≤ 65536) × (self .charge ≤ 65536) ⌝ }
+        requires { ⌜ (self .calls .left ≤ cellsLimit) × (self .charge ≤ cellsLimit) ⌝ }
         ensures { λ r. ⌜ ((o : List ℕ) → leaves r (lent (now (cells .exit)) o) ≡ collect self byte (lent (now (cells .entry)) o)) ⌝ }
     {
         if self.charge >= cells.len() {

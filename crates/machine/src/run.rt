@@ -147,7 +147,7 @@ impl Run {
         if self.calls.call > Run::NOWHERE {
             return false;
         }
-        if self.calls.hand > 65536 {
+        if self.calls.hand > Sizes::CELLS_LIMIT {
             return false;
         }
         if self.source.list > Run::NOWHERE {

@@ -36,7 +36,7 @@ impl Run {
 
     // The next byte of the innermost body, else of the text, or NOWHERE at its end.
     fn next_byte(self, text: &[u8], cells: &[u32]) -> usize
-        requires { ⌜ (self .source .body ≤ 65535) × (self .source .offset ≤ 4294967296) ⌝ }
+        requires { ⌜ (self .source .body ≤ nowhere) × (self .source .offset ≤ 4294967296) ⌝ }
         ensures { λ r. ⌜ r ≡ nextByte self (now (text .entry)) (now (cells .entry)) ⌝ }
     {
         if self.source.list != Run::NOWHERE {

@@ -9,8 +9,10 @@ ghost use mathlib.Core.Path.{_≡_};
 ghost use mathlib.Core.List.{List};
 ghost use Prim.Native.Nat.{ℕ, _+_, _≤_, _<_};
 ghost use lib.ListN.{length};
+ghost use Rattle.language.specs.Signs.{cellsLimit};
 ghost use Rattle.language.specs.Expansion.{lent};
-ghost use Rattle.machine.specs.Machine.{Sound, leaves, openAt, openCall, endArgument, separated, endByComma, separate, bodyByte, parameterNumber, fetchInText, fetchArgument, fetchNumber, fetchInBody, fetch, unquote, endText, ownCall, bodyEnded, endBodyTo, endBody};
+ghost use Rattle.machine.specs.Walks.{nowhere};
+ghost use Rattle.machine.specs.Machine.{Sound, leaves, openAt, openCall, endArgument, endByComma, separate, bodyByte, parameterNumber, fetchInText, fetchArgument, fetchNumber, fetchInBody, fetch, unquote, endText, ownCall, bodyEnded, endBodyTo, endBody};
 
 impl Run {
     // `$` opens a call with an empty name.
@@ -32,7 +34,7 @@ impl Run {
 
     // The head of a call that is opened at a position.
     fn open_at(self, at: usize, cells: &mut [u32])
-        requires { ⌜ at ≤ 65536 ⌝ }
+        requires { ⌜ at ≤ cellsLimit ⌝ }
         ensures { λ _. ⌜ now (cells .exit) ≡ openAt self at (now (cells .entry)) ⌝ }
     {
         let list = layout::cell(self.source.list);
@@ -43,7 +45,7 @@ impl Run {
 
     // The length of the argument in hand goes into its cell.
     pub(crate) fn end_argument(self, cells: &mut [u32])
-        requires { ⌜ self .calls .hand ≤ 65536 ⌝ }
+        requires { ⌜ self .calls .hand ≤ cellsLimit ⌝ }
         ensures { λ _. ⌜ now (cells .exit) ≡ endArgument self (now (cells .entry)) ⌝ }
     {
         let hand = self.calls.hand;
@@ -80,7 +82,7 @@ impl Run {
 
     // The next byte of the body being read, or NOWHERE at its end.
     pub(crate) fn body_byte(self, cells: &[u32]) -> usize
-        requires { ⌜ (self .source .body ≤ 65535) × (self .source .offset ≤ 4294967296) ⌝ }
+        requires { ⌜ (self .source .body ≤ nowhere) × (self .source .offset ≤ 4294967296) ⌝ }
         ensures { λ r. ⌜ r ≡ bodyByte self (now (cells .entry)) ⌝ }
     {
         let body = self.source.body;
@@ -121,7 +123,7 @@ impl Run {
     }
 
     fn fetch_number(self, number: usize, cells: &mut [u32], output: &mut [u8]) -> Stepped
-        requires { ⌜ (Sound (length (now cells)) self) × (self .counts .written ≤ length (now output)) × (self .source .offset < 4294967296) × (number ≤ 65535) ⌝ }
+        requires { ⌜ (Sound (length (now cells)) self) × (self .counts .written ≤ length (now output)) × (self .source .offset < 4294967296) × (number ≤ nowhere) ⌝ }
         ensures { λ r. ⌜ leaves r (lent (now (cells .exit)) (now (output .exit))) ≡ fetchNumber self number (lent (now (cells .entry)) (now (output .entry))) ⌝ }
     {
         if number == Run::NOWHERE {
@@ -181,7 +183,7 @@ impl Run {
 
     // Whether the innermost open call was begun in the body, or in the text, being read.
     pub(crate) fn own_call(self, cells: &[u32]) -> bool
-        requires { ⌜ self .calls .call ≤ 65535 ⌝ }
+        requires { ⌜ self .calls .call ≤ nowhere ⌝ }
         ensures { λ r. ⌜ r ≡ ownCall self (now (cells .entry)) ⌝ }
     {
         let call = self.calls.call;
@@ -262,7 +264,7 @@ impl Run {
 
 // The parameter that the byte after `~` stands for.
 fn parameter_number(byte: usize) -> usize
-    ensures { λ r. ⌜ (r ≡ parameterNumber byte) × (r ≤ 65535) ⌝ }
+    ensures { λ r. ⌜ (r ≡ parameterNumber byte) × (r ≤ nowhere) ⌝ }
 {
     if byte < 48 {
         return Run::NOWHERE;

@@ -1,5 +1,5 @@
 -- The clauses are the two laws of whole runs: what ends so is reported so, and demand 3 holds of every whole run.
-use mathlib.Core.Path.{refl, sym, _∙_}
+use mathlib.Core.Path.{sym, _∙_}
 use denote.Ref.{now}
 use borrow.Author.Needs.{needs}
 use Rattle.language.specs.Signs.{standard}
@@ -56,7 +56,7 @@ returns-2 c =
     let g = given standard (now (a .text)) m (a .allowance) in
     delivers standard (now (a .text)) m (a .allowance) _
     (rw (c .of .ensures, b .clear .ensures)
-    (reports g refl (rw (b₃ .standard-kinds .ensures) at (b₂ .run-to-end .ensures)) (b .before .before .before .before .before .cells .given) (sym (b₄ .before .too-large .ensures) ∙ b₄ .if1 .left)))
+    (reports g (rw (b₃ .standard-kinds .ensures) at (b₂ .run-to-end .ensures)) (b .before .before .before .before .before .cells .given) (sym (b₄ .before .too-large .ensures) ∙ b₄ .if1 .left)))
 
 pub expand-spec : {M : Type 1} → statement M
 expand-spec =

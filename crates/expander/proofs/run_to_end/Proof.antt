@@ -2,7 +2,7 @@
 use native.Mathlib.Omega.{arith}
 use borrow.Author.Needs.{needs}
 use Rattle.machine.proofs.Fetching.{octetsOf}
-use Rattle.expander.proofs.Running.{brought}
+use Rattle.expander.proofs.Running.{ran}
 use Rattle.expander.proofs.run_to_end.Statement.{statement}
 use Rattle.expander.proofs.run_to_end.Tie as tie
 
@@ -23,7 +23,7 @@ returns c =
     let b = c .before .before .before .before in
     let b₂ = b .before .before .before in
     let s = b₂ .before .before .before .before in
-    brought _ _ _ _ _ _ (rw (b₂ .new .ensures) at (b .go-on .ensures)) (s .pre) (octetsOf (s .args .text .now) (λ i. b₂ .before .before .before .shared-slice-known .given i .fits))
+    ran _ _ _ _ _ _ (rw (b₂ .new .ensures) at (b .go-on .ensures)) (s .pre) (octetsOf (s .args .text .now) (λ i. b₂ .before .before .before .shared-slice-known .given i .fits))
     (omega (arith, s .fits .allowance .fits))
 
 pub run-to-end-spec : {M : Type 1} → statement M
