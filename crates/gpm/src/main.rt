@@ -2,8 +2,8 @@
 // run to standard error.
 //
 // A program has no exit status, so what goes wrong with the input or the output is said by a further line on standard
-// error, behind the report: `read failed`, where what was read up to there was run as the text, and `write failed`, where
-// some of the output may have been written. The report is written first, so it is there also where a closed pipe at
+// error, behind the report: `read failed`, where no whole text could be lent and so nothing was run, and `write failed`,
+// where some of the output may have been written. The report is written first, so it is there also where a closed pipe at
 // standard output ends the program. Where standard error itself cannot be written there is no place left to say so.
 use expander::Report;
 use language::Sizes;
@@ -16,6 +16,8 @@ ghost use mathlib.Core.Path.{_≡_};
 ghost use mathlib.Core.List.{_++_};
 ghost use lib.ListN.{length, take};
 ghost use Rattle.io.specs.Counts.{Counts};
+ghost use Rattle.language.specs.Outcomes;
+ghost use Rattle.expander.specs.Reports.{refusedWith};
 ghost use Rattle.gpm.specs.Line.{item, reportLine};
 
 // One byte more than a text may have, so that a longer one is seen and refused.
@@ -28,6 +30,9 @@ const SCANS: u64 = 10000000;
 // Six numbers of at most twenty digits, each with a byte behind it.
 const LINE: usize = 126;
 
+// How often in a row a read may be interrupted before it counts as failed.
+const TRIES: u32 = 1000000;
+
 struct Input {
     len: usize,
     failed: bool,
@@ -36,11 +41,13 @@ struct Input {
 fn main() {
     let mut text = [0u8; ROOM];
     let input = read_input(&mut text);
+    if input.failed {
+        write_report(nothing_lent());
+        io::write_all(STDERR_FILENO, b"read failed\n");
+        return;
+    }
     let len = input.len;
     run(&text[..len]);
-    if input.failed {
-        io::write_all(STDERR_FILENO, b"read failed\n");
-    }
 }
 
 // Reads until the input ends, a read fails or the text is full.
@@ -49,7 +56,7 @@ fn read_input(text: &mut [u8]) -> Input
 {
     let mut len = 0;
     while len < text.len() {
-        let got = libc::read(STDIN_FILENO, &mut text[len..]);
+        let got = read_some(&mut text[len..]);
         let more = io::count(got, &text[len..]);
         if more == 0 {
             return Input {
@@ -60,6 +67,42 @@ fn read_input(text: &mut [u8]) -> Input
         len += more;
     }
     Input { len, failed: false }
+}
+
+// One read. One that was only interrupted is made again.
+fn read_some(text: &mut [u8]) -> isize {
+    let mut tries = TRIES;
+    let mut got = libc::read(STDIN_FILENO, text);
+    while tries > 0 {
+        if !is_interrupted(got) {
+            return got;
+        }
+        got = libc::read(STDIN_FILENO, text);
+        tries -= 1;
+    }
+    got
+}
+
+// Whether the read that answered this was only interrupted.
+fn is_interrupted(got: isize) -> bool {
+    if got >= 0 {
+        return false;
+    }
+    os::errno() == libc::EINTR
+}
+
+// The report where no whole text could be read: a text that cannot be lent is refused, "all counts 0".
+fn nothing_lent() -> Report
+    ensures { λ r. ⌜ r ≡ refusedWith Outcomes.tooLarge ⌝ }
+{
+    Report {
+        outcome: outcomes::TOO_LARGE as u64,
+        read: 0,
+        written: 0,
+        scans: 0,
+        most: 0,
+        live: 0,
+    }
 }
 
 // Runs a text, and writes the report and then the output.
