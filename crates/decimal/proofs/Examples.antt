@@ -61,6 +61,10 @@ above = 50 ∷ 49 ∷ 52 ∷ 55 ∷ 52 ∷ 56 ∷ 51 ∷ 54 ∷ 52 ∷ 56 ∷ []
 smallest : List ℕ
 smallest = 45 ∷ above
 
+-- -2147483649
+below : List ℕ
+below = 45 ∷ 50 ∷ 49 ∷ 52 ∷ 55 ∷ 52 ∷ 56 ∷ 51 ∷ 54 ∷ 52 ∷ 57 ∷ []
+
 -- 2147483647
 largest : List ℕ
 largest = 50 ∷ 49 ∷ 52 ∷ 55 ∷ 52 ∷ 56 ∷ 51 ∷ 54 ∷ 52 ∷ 55 ∷ []
@@ -108,9 +112,26 @@ cases =
     refuses Quotient [] (48 ∷ []) 22 ∷
     -- Rem of 1 by 0x: the second operand is no number
     refuses Remainder (49 ∷ []) (48 ∷ 120 ∷ []) 22 ∷
+    -- +2 + 1 is 3
+    gives Sum (43 ∷ 50 ∷ []) (49 ∷ []) (51 ∷ []) ∷
+    -- 4 + 5 is 9, and 5 + 5 is 10
+    gives Sum (52 ∷ []) (53 ∷ []) (57 ∷ []) ∷
+    gives Sum (53 ∷ []) (53 ∷ []) (49 ∷ 48 ∷ []) ∷
+    -- 1 - 0 is 1 and 1 * 0 is 0: no divisor
+    gives Difference (49 ∷ []) (48 ∷ []) (49 ∷ []) ∷
+    gives Product (49 ∷ []) (48 ∷ []) (48 ∷ []) ∷
+    -- two signs are no number, nor are a space and a digit
+    refuses Sum (43 ∷ 43 ∷ 49 ∷ []) (49 ∷ []) 22 ∷
+    refuses Sum (32 ∷ 49 ∷ []) (49 ∷ []) 22 ∷
+    -- -2147483649 is no number in range
+    refuses Sum below (48 ∷ []) 22 ∷
+    -- -2147483648 - 1 is out of range
+    refuses Difference smallest (49 ∷ []) 24 ∷
+    -- Rem of 1 by 0 has a divisor zero
+    refuses Remainder (49 ∷ []) (48 ∷ []) 23 ∷
     []
 
 -- every case is answered as it says
 examples : failing cases ≡ []
-unfolding outcomeOf textOf same right? failing gives refuses above smallest largest zeros cases digitsFrom operand digitsOf
+unfolding outcomeOf textOf same right? failing gives refuses above below smallest largest zeros cases digitsFrom operand digitsOf
 examples = refl
