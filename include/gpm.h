@@ -31,7 +31,7 @@ enum gpm_outcome {
     GPM_NO_OUTPUT_LEFT = 5,       /* the bytes of this scan would exceed the output lent */
     GPM_APPLIES_NOTHING = 10,     /* an unquoted ; in a body, with no call begun in that body still open */
     GPM_PARAMETER_IN_TEXT = 11,   /* an unquoted ~ in the text while a call is collected */
-    GPM_PARAMETER_NOT_DIGIT = 12, /* ~ in a body, and next is no digit or the body ends */
+    GPM_FETCHES_NOTHING = 12,     /* ~ in a body, and next is no digit or letter a to z, or the body ends */
     GPM_NOT_SUPPLIED = 13,        /* a parameter fetched, or needed by a built-in, was not supplied */
     GPM_BODY_IN_CALL = 14,        /* a body ended inside a call begun in it */
     GPM_NOT_DEFINED = 15,         /* a name is not defined */
@@ -45,6 +45,9 @@ enum gpm_outcome {
     GPM_DIVISOR_ZERO = 23,        /* the divisor is zero */
     GPM_RESULT_OUT_OF_RANGE = 24  /* the result is out of range */
 };
+
+/* The name of 12 before letters stood for parameters, for programs that have it. */
+#define GPM_PARAMETER_NOT_DIGIT GPM_FETCHES_NOTHING
 
 /* What a run reports. The byte at which a run is refused counts as read, and that scan counts. */
 typedef struct gpm_report {

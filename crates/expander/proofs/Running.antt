@@ -9,7 +9,7 @@ use lib.ListN.{length, drop}
 use lib.Dec.{eqb, leb, ltb}
 use borrow.Author.Tests.{ltb-false}
 use Rattle.memory.specs.Block.{zeros}
-use Rattle.language.specs.Signs.{Bytes, Table, textLimit, cellsLimit, outputLimit}
+use Rattle.language.specs.Signs.{Bytes, Table, language, textLimit, cellsLimit, outputLimit}
 use Rattle.language.specs.Outcomes
 use Rattle.language.specs.Definitions.{Definition, live}
 use Rattle.language.specs.BuiltIns.{builtIns}
@@ -137,7 +137,7 @@ ran T text allowance m st m′ h small oct fits =
     let x = freshHolds text m small oct in
     let a = h .advanced (range-in _ _ _ (x .inRange)) in
     let all : min allowance (lastScan - 0) ≡ allowance = omega arith in
-    let r = go (S.scans (limitsOf (length (m .cells)) (length (m .output))) T allowance (next (S.start text builtIns)))
+    let r = go (S.scans (limitsOf (length (m .cells)) (length (m .output))) (language T) allowance (next (S.start text builtIns)))
     (rw all at (a .moves (m .output) (S.start text builtIns) x)) in
     ranTo (given T text m allowance) st m′ refl (r .0) (r .1)
   where

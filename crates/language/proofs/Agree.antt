@@ -9,7 +9,7 @@ use mathlib.Core.Logic.{_↔_}
 use lib.ListN.{length, length-append}
 use lib.Dec.{ltb, leb·suc-suc, lt→ltb}
 use lib.Ieee.Bits.{is-true}
-use Rattle.language.specs.Signs.{Bytes, Table, copied, meaning, outside, inside, closesTo, Sign, plain, dollar, comma, semicolon, tilde, quote, unquote, signOf, parameterNumber}
+use Rattle.language.specs.Signs.{Bytes, Language, copied, meaning, outside, inside, closesTo, Sign, plain, dollar, comma, semicolon, tilde, quote, unquote, signOf}
 use Rattle.language.specs.Definitions.{Definition, defined, altered, oldest, newer, between, without}
 use Rattle.language.specs.BuiltIns.{Deed, reads, defines, gives, alters, faulty, deed, parameter}
 use Rattle.language.specs.Charge.{openPrice, endPrice, argumentsPrice, listPrice, definitionsPrice}
@@ -173,10 +173,10 @@ bodyCallsOf toOutput v v₂ = refl
 bodyCallsOf (toOuter w k cs) v v₂ = rw (joinedAssoc w (v .pieces) (v .hand) (v₂ .pieces) (v₂ .hand))
 bodyCallsOf (toOwn k cs) v v₂ = refl
 
-bodyBehind : (G : Frame) (C : Calls) (v : Value) (r : Bytes) (h : Held) → behind G (bodyCalls C v) r h ≡ left G (bodyCalls C v) h
-bodyBehind G toOutput v r h = refl
-bodyBehind G (toOuter w k cs) v r h = refl
-bodyBehind G (toOwn k cs) v r h = refl
+bodyBehind : (F′ : Frame) (C : Calls) (v : Value) (r : Bytes) (h : Held) → behind F′ (bodyCalls C v) r h ≡ left F′ (bodyCalls C v) h
+bodyBehind F′ toOutput v r h = refl
+bodyBehind F′ (toOuter w k cs) v r h = refl
+bodyBehind F′ (toOwn k cs) v r h = refl
 
 bodyCollecting : (C : Calls) (v : Value) → collectingOf (bodyCalls C v) ≡ R.around (collectingOf C)
 bodyCollecting toOutput v = refl
@@ -360,17 +360,17 @@ abbrev atEnd : Frame → ℕ → Bool → Calls → Held → Step
 atEnd inText q o C h = S.textEnd noLimits q (callsOf C (h .value)) (at inText C q [] h)
 atEnd (inBody B t bs) q o C h = S.bodyEnd noLimits o (S.withRest [] B) bs (at (inBody B t bs) C q [] h)
 
-module _ (T : Table) where
+module _ (G : Language) where
   -- one scan takes a byte from the source
   scanByte : (F : Frame) (C : Calls) (q b : ℕ) (r : Bytes) (h : Held)
-      → scan T (at F C q (b ∷ r) h) ≡ S.byte noLimits (meaning T q b) b (at F C q r (scannedByte (sourceOf F) h))
+      → scan G (at F C q (b ∷ r) h) ≡ S.byte noLimits G (meaning (G .table) q b) b (at F C q r (scannedByte (sourceOf F) h))
   unfolding S.scan
   scanByte inText C q b r h = refl
   scanByte (inBody B t bs) C q b r h = refl
 
   -- or comes to its end
   scanEnd : (F : Frame) (C : Calls) (reading : List ℕ) → Fits F C reading → (q : ℕ) (h : Held)
-      → scan T (at F C q [] h) ≡ atEnd F q (isOwn (collectingOf C)) C (scannedEnd h)
+      → scan G (at F C q [] h) ≡ atEnd F q (isOwn (collectingOf C)) C (scannedEnd h)
   unfolding S.scan
   scanEnd inText C reading f q h = refl
   scanEnd (inBody B t bs) C reading f q h =
@@ -379,15 +379,15 @@ module _ (T : Table) where
   -- what is shown of the evaluation at depth d
   Agrees : ℕ → Eval → Type 0
   Agrees d ev = (F : Frame) (C : Calls) (reading : List ℕ) → Fits F C reading → (base : ℕ) (r : Bytes) (x : Handed) → Good F C base (fresh x)
-      → Comes T (behind F C) (Good F C base) (length r) d (at F C 0 r (fresh x)) (ev (sourceOf F) (collectingOf C) reading r x)
+      → Comes G (behind F C) (Good F C base) (length r) d (at F C 0 r (fresh x)) (ev (sourceOf F) (collectingOf C) reading r x)
 
   -- 4. The cases in which it matters where the source stands or what collects the value --------------------------------
 
   module _ (d m base : ℕ) (nested : Eval) (go : Go) where
     To : Frame → Calls → State → Result → Type 0
-    To F C s res = Comes T (behind F C) (Good F C base) m (suc d) s res
+    To F C s res = Comes G (behind F C) (Good F C base) m (suc d) s res
 
-    endComes : (F : Frame) (C : Calls) (q : ℕ) (h : Held) (s : State) → Good F C base h → scan T s ≡ atEnd F q (isOwn (collectingOf C)) C h
+    endComes : (F : Frame) (C : Calls) (q : ℕ) (h : Held) (s : State) → Good F C base h → scan G s ≡ atEnd F q (isOwn (collectingOf C)) C h
         → To F C s (R.sourceEnd (sourceOf F) (collectingOf C) q h)
     unfolding To
     endComes inText C (suc q) h s g e = toFinish (now e)
@@ -400,17 +400,17 @@ module _ (T : Table) where
 
     -- a continuation for bytes that are copied
     Puts : Frame → Calls → Bytes → Held → State → Type 0
-    Puts F C r h s = (bs : Bytes) → scan T s ≡ S.put noLimits bs (at F C 0 r h) → To F C s (go 0 r (R.put (collectingOf C) bs h))
+    Puts F C r h s = (bs : Bytes) → scan G s ≡ S.put noLimits bs (at F C 0 r h) → To F C s (go 0 r (R.put (collectingOf C) bs h))
 
     applyNoneComes : (F : Frame) (C : Calls) (b : ℕ) (r : Bytes) (h : Held) (s : State)
-        → scan T s ≡ S.applyNone noLimits (bodiesOf F r) b (at F C 0 r h) → Puts F C r h s
+        → scan G s ≡ S.applyNone noLimits (bodiesOf F r) b (at F C 0 r h) → Puts F C r h s
         → To F C s (R.applyNone nested go (sourceOf F) (collectingOf C) b r h)
     unfolding To Puts
     applyNoneComes inText C b r h s e k = k (b ∷ []) e
     applyNoneComes (inBody B t bs) C b r h s e k = toFinish (now e)
 
     applyComes : (F : Frame) (C : Calls) (b : ℕ) (r : Bytes) (h : Held) (s : State) → Good F C base h
-        → scan T s ≡ S.apply noLimits (isOwn (collectingOf C)) b (at F C 0 r h) → length r ≤ m → Puts F C r h s
+        → scan G s ≡ S.apply noLimits (isOwn (collectingOf C)) b (at F C 0 r h) → length r ≤ m → Puts F C r h s
         → To F C s (R.apply nested go (sourceOf F) (collectingOf C) b r h)
     unfolding To
     applyComes F toOutput b r h s g e l k = applyNoneComes F toOutput b r h s e k
@@ -418,21 +418,21 @@ module _ (T : Table) where
     applyComes F (toOwn j cs) b r h s g e l k = toStretch {r = r} (now e) l g
 
     suppliedComes : (F : Frame) (C : Calls) (t : Bool) (p r : Bytes) (h : Held) (s : State)
-        → scan T s ≡ S.fetchSupplied noLimits t p (at F C 0 r h) → Puts F C r h s
+        → scan G s ≡ S.fetchSupplied noLimits t p (at F C 0 r h) → Puts F C r h s
         → To F C s (R.fetchSupplied nested go t (collectingOf C) p r h)
     unfolding To Puts
     suppliedComes F C true p r h s e k = k p e
     suppliedComes F C false p r h s e k = toFinish (now e)
 
     numberComes : (F : Frame) (C : Calls) (j : Option ℕ) (list : List Bytes) (r : Bytes) (h : Held) (s : State)
-        → scan T s ≡ S.fetchNumber noLimits j list (at F C 0 r h) → Puts F C r h s
+        → scan G s ≡ S.fetchNumber noLimits j list (at F C 0 r h) → Puts F C r h s
         → To F C s (R.fetchNumber nested go j list (collectingOf C) r h)
     unfolding To
     numberComes F C none list r h s e k = toFinish (now e)
     numberComes F C (some j) list r h s e k = suppliedComes F C (ltb j (length list)) (parameter j list) r h s e k
 
     fetchTextComes : (C : Calls) (b : ℕ) (r : Bytes) (h : Held) (s : State)
-        → scan T s ≡ S.fetchInText noLimits (callsOf C (h .value)) b (at inText C 0 r h) → Puts inText C r h s
+        → scan G s ≡ S.fetchInText noLimits (callsOf C (h .value)) b (at inText C 0 r h) → Puts inText C r h s
         → To inText C s (R.fetchInText nested go (collectingOf C) b r h)
     unfolding To Puts
     fetchTextComes toOutput b r h s e k = k (b ∷ []) e
@@ -440,15 +440,15 @@ module _ (T : Table) where
     fetchTextComes (toOwn j cs) b r h s e k = toFinish (now e)
 
     fetchComes : (F : Frame) (C : Calls) (b : ℕ) (r : Bytes) (h : Held) (s : State)
-        → scan T s ≡ S.fetch noLimits (bodiesOf F r) b (at F C 0 r h) → ((r′ : Bytes) → length r′ ≤ length r → Puts F C r′ h s)
-        → To F C s (R.fetch nested go (sourceOf F) (collectingOf C) b r h)
+        → scan G s ≡ S.fetch noLimits G (bodiesOf F r) b (at F C 0 r h) → ((r′ : Bytes) → length r′ ≤ length r → Puts F C r′ h s)
+        → To F C s (R.fetch nested go G (sourceOf F) (collectingOf C) b r h)
     unfolding To
     fetchComes inText C b r h s e k = fetchTextComes C b r h s e (k r (omega arith))
     fetchComes (inBody B t bs) C b [] h s e k = toFinish (now e)
-    fetchComes (inBody B t bs) C b (x ∷ r) h s e k = numberComes (inBody B t bs) C (parameterNumber x) (B .list) r h s e (k r (omega arith))
+    fetchComes (inBody B t bs) C b (x ∷ r) h s e k = numberComes (inBody B t bs) C (G .parameterNumber x) (B .list) r h s e (k r (omega arith))
 
     unquoteComes : (F : Frame) (C : Calls) (b : ℕ) (r : Bytes) (h : Held) (s : State)
-        → scan T s ≡ S.unquote noLimits (bodiesOf F r) (callsOf C (h .value)) b (at F C 0 r h) → Puts F C r h s
+        → scan G s ≡ S.unquote noLimits (bodiesOf F r) (callsOf C (h .value)) b (at F C 0 r h) → Puts F C r h s
         → To F C s (R.unquote nested go (sourceOf F) (collectingOf C) b r h)
     unfolding To Puts
     unquoteComes inText toOutput b r h s e k = toFinish (now e)
@@ -460,18 +460,18 @@ module _ (T : Table) where
 
   module _ (d : ℕ) (nested : Eval) (ih : Agrees d nested) (F : Frame) (C : Calls) (reading : List ℕ) (f : Fits F C reading) (base : ℕ) where
     abbrev To′ : ℕ → State → Result → Type 0
-    To′ m s res = Comes T (behind F C) (Good F C base) m (suc d) s res
+    To′ m s res = Comes G (behind F C) (Good F C base) m (suc d) s res
 
     GoAgrees : ℕ → ℕ → Go → Type 0
     GoAgrees m n go = (q : ℕ) (r : Bytes) (h : Held) → Good F C base h → length r ≤ n → To′ m (at F C q r h) (go q r h)
 
     module _ (m n : ℕ) (bound : n ≤ m) (go : Go) (ihGo : GoAgrees m n go) where
-      goes : (s : State) (q : ℕ) (r : Bytes) (h : Held) → Gets T (next (at F C q r h)) s → Good F C base h → length r ≤ n → To′ m s (go q r h)
+      goes : (s : State) (q : ℕ) (r : Bytes) (h : Held) → Gets G (next (at F C q r h)) s → Good F C base h → length r ≤ n → To′ m s (go q r h)
       unfolding GoAgrees
-      goes s q r h g k l = weaker T (after T g (ihGo q r h k l))
+      goes s q r h g k l = weaker G (after G g (ihGo q r h k l))
 
       goesPut : (s : State) (q : ℕ) (r : Bytes) (h : Held) → Good F C base h → length r ≤ n → (bs : Bytes)
-          → scan T s ≡ S.put noLimits bs (at F C q r h) → To′ m s (go q r (R.put (collectingOf C) bs h))
+          → scan G s ≡ S.put noLimits bs (at F C q r h) → To′ m s (go q r (R.put (collectingOf C) bs h))
       goesPut s q r h k l bs e = goes s q r (R.put (collectingOf C) bs h) (now (e ∙ putAt F C base q bs r h k)) (goodPut F C base bs h k) l
 
       puts : (s : State) (r : Bytes) (h : Held) → Good F C base h → length r ≤ n → Puts d m base nested go F C r h s
@@ -480,7 +480,7 @@ module _ (T : Table) where
 
       -- the call that collected h₁ does D
       performComes : (D : Deed) (k : ℕ) (r : Bytes) (h h₁ : Held) (s : State) → base ≤ k → Good F (toOwn k (callsOf C (h .value))) k h₁
-          → Gets T (S.perform noLimits D (callOf (h₁ .value) k) (callsOf C (h .value)) (at F (toOwn k (callsOf C (h .value))) 0 r (handing (charged₁ F C k h h₁) h₁))) s
+          → Gets G (S.perform noLimits D (callOf (h₁ .value) k) (callsOf C (h .value)) (at F (toOwn k (callsOf C (h .value))) 0 r (handing (charged₁ F C k h h₁) h₁))) s
           → length r ≤ n
           → To′ m s (R.perform nested go D (collectingOf C) reading k (R.listOf (h₁ .value)) r h (charged₁ F C k h h₁))
       unfolding Agrees S.bodiesCharge
@@ -489,14 +489,14 @@ module _ (T : Table) where
           let x = charged₁ F C k h h₁ in
           let list = R.listOf (h₁ .value) in
           let y = length (h₁ .handed .definitions) in
-          let G = frameOfBody F C h k j y list w r in
+          let F′ = frameOfBody F C h k j y list w r in
           let same : callsOf (bodyCalls C v) noValue ≡ callsOf C v = bodyCallsOf C v noValue ∙ ap (callsOf C) (joinedNone v) in
-          let gets₁ : Gets T (next (at G (bodyCalls C v) 0 w (fresh x))) s = rw same gets in
-          let good₁ : Good G (bodyCalls C v) y (fresh x) =
+          let gets₁ : Gets G (next (at F′ (bodyCalls C v) 0 w (fresh x))) s = rw same gets in
+          let good₁ : Good F′ (bodyCalls C v) y (fresh x) =
           record { charged = rw same (omega (arith, listCharge F C k h h₁ g, bodiesAt F r)); grown = omega arith } in
-          let c = after T gets₁ (ih G (bodyCalls C v) (j ∷ reading) (bodyFits F C h k j y list w r reading f) y w x good₁) in
-          thenComes T _ (rw (bodyCollecting C v) at c) λ r₂ h₂ gets₂ l₂ good₂.
-          let gets₃ : Gets T (left G (bodyCalls C v) h₂) s = rw (bodyBehind G C v r₂ h₂) at gets₂ in
+          let c = after G gets₁ (ih F′ (bodyCalls C v) (j ∷ reading) (bodyFits F C h k j y list w r reading f) y w x good₁) in
+          thenComes G _ (rw (bodyCollecting C v) at c) λ r₂ h₂ gets₂ l₂ good₂.
+          let gets₃ : Gets G (left F′ (bodyCalls C v) h₂) s = rw (bodyBehind F′ C v r₂ h₂) at gets₂ in
           let ds = h₂ .handed .definitions in
           let held : Held = record { value = joined v (h₂ .value); handed = R.released list (between k y ds) (without k y ds) (h₂ .handed) } in
           goes s 0 r held (rw (bodyCallsOf C v (h₂ .value)) at gets₃)
@@ -515,27 +515,27 @@ module _ (T : Table) where
       performComes (faulty e) k r h h₁ s b g gets l = toFinish gets
 
       -- `$`: the call is collected, applied and performed
-      callComes : (r : Bytes) (h : Held) (s : State) → Good F C base h → scan T s ≡ S.openCall noLimits (at F C 0 r h) → length r ≤ n
+      callComes : (r : Bytes) (h : Held) (s : State) → Good F C base h → scan G s ≡ S.openCall noLimits (at F C 0 r h) → length r ≤ n
           → To′ m s (R.call nested go (sourceOf F) (collectingOf C) reading r h)
       unfolding Agrees
       callComes r h s g e l =
           let k = length (h .handed .definitions) in
           let cs = callsOf C (h .value) in
           let x = R.charged openPrice (h .handed) in
-          let e₁ : scan T s ≡ next (at F (toOwn k cs) 0 r (fresh x)) = e ∙ rw (chargeAt F C base 0 r h g) in
-          thenComes T _ (after T (now e₁) (ih F (toOwn k cs) reading (callFits F C reading f k h) k r x (callGood F C base k h g))) λ r₁ h₁ gets₁ l₁ g₁.
+          let e₁ : scan G s ≡ next (at F (toOwn k cs) 0 r (fresh x)) = e ∙ rw (chargeAt F C base 0 r h g) in
+          thenComes G _ (after G (now e₁) (ih F (toOwn k cs) reading (callFits F C reading f k h) k r x (callGood F C base k h g))) λ r₁ h₁ gets₁ l₁ g₁.
           performComes (deed reading (R.listOf (h₁ .value)) (h₁ .handed .definitions)) k r₁ h h₁ s (g .grown) g₁
           (rw (chargeAt F (toOwn k cs) k 0 r₁ h₁ g₁, readingAt F r₁ ∙ sym (f .busy)) at gets₁)
           (omega arith)
 
-      copiedComes : (q′ q b : ℕ) (r : Bytes) (h : Held) (s : State) → Good F C base h → scan T s ≡ S.byte noLimits (copied q) b (at F C q′ r h) → length r ≤ n
+      copiedComes : (q′ q b : ℕ) (r : Bytes) (h : Held) (s : State) → Good F C base h → scan G s ≡ S.byte noLimits G (copied q) b (at F C q′ r h) → length r ≤ n
           → To′ m s (go q r (R.put (collectingOf C) (b ∷ []) h))
       copiedComes q′ q b r h s g e l = goesPut s q r h g l (b ∷ []) e
 
       -- a sign outside of quotes
       outsideComes : (sg : Sign) (b : ℕ) (r : Bytes) (h : Held) (s : State) → Good F C base h
-          → scan T s ≡ S.byte noLimits (outside sg) b (at F C 0 r h) → length r ≤ n
-          → To′ m s (R.byte nested go (outside sg) (sourceOf F) (collectingOf C) reading b r h)
+          → scan G s ≡ S.byte noLimits G (outside sg) b (at F C 0 r h) → length r ≤ n
+          → To′ m s (R.byte nested go G (outside sg) (sourceOf F) (collectingOf C) reading b r h)
       unfolding To
       outsideComes plain b r h s g e l = copiedComes 0 0 b r h s g e l
       outsideComes dollar b r h s g e l = callComes r h s g e l
@@ -549,14 +549,14 @@ module _ (T : Table) where
       outsideComes unquote b r h s g e l = unquoteComes d m base nested go F C b r h s e (puts s r h g l)
 
       closesComes : (q b : ℕ) (r : Bytes) (h : Held) (s : State) → Good F C base h
-          → scan T s ≡ S.byte noLimits (closesTo q) b (at F C (suc q) r h) → length r ≤ n
-          → To′ m s (R.byte nested go (closesTo q) (sourceOf F) (collectingOf C) reading b r h)
+          → scan G s ≡ S.byte noLimits G (closesTo q) b (at F C (suc q) r h) → length r ≤ n
+          → To′ m s (R.byte nested go G (closesTo q) (sourceOf F) (collectingOf C) reading b r h)
       closesComes zero b r h s g e l = goes s 0 r h (now e) g l
       closesComes (suc q) b r h s g e l = copiedComes (suc (suc q)) (suc q) b r h s g e l
 
       insideComes : (q : ℕ) (sg : Sign) (b : ℕ) (r : Bytes) (h : Held) (s : State) → Good F C base h
-          → scan T s ≡ S.byte noLimits (inside q sg) b (at F C (suc q) r h) → length r ≤ n
-          → To′ m s (R.byte nested go (inside q sg) (sourceOf F) (collectingOf C) reading b r h)
+          → scan G s ≡ S.byte noLimits G (inside q sg) b (at F C (suc q) r h) → length r ≤ n
+          → To′ m s (R.byte nested go G (inside q sg) (sourceOf F) (collectingOf C) reading b r h)
       insideComes q plain b r h s g e l = copiedComes (suc q) (suc q) b r h s g e l
       insideComes q dollar b r h s g e l = copiedComes (suc q) (suc q) b r h s g e l
       insideComes q comma b r h s g e l = copiedComes (suc q) (suc q) b r h s g e l
@@ -566,66 +566,66 @@ module _ (T : Table) where
       insideComes q unquote b r h s g e l = closesComes q b r h s g e l
 
       byteComes : (q b : ℕ) (r : Bytes) (h : Held) → Good F C base h → length r ≤ n
-          → To′ m (at F C q (b ∷ r) h) (R.byte nested go (meaning T q b) (sourceOf F) (collectingOf C) reading b r (scannedByte (sourceOf F) h))
+          → To′ m (at F C q (b ∷ r) h) (R.byte nested go G (meaning (G .table) q b) (sourceOf F) (collectingOf C) reading b r (scannedByte (sourceOf F) h))
       unfolding meaning
       byteComes zero b r h g l =
-          outsideComes (signOf T b) b r (scannedByte (sourceOf F) h) _ (record { charged = g .charged; grown = g .grown }) (scanByte F C zero b r h) l
+          outsideComes (signOf (G .table) b) b r (scannedByte (sourceOf F) h) _ (record { charged = g .charged; grown = g .grown }) (scanByte F C zero b r h) l
       byteComes (suc q) b r h g l =
-          insideComes q (signOf T b) b r (scannedByte (sourceOf F) h) _ (record { charged = g .charged; grown = g .grown }) (scanByte F C (suc q) b r h) l
+          insideComes q (signOf (G .table) b) b r (scannedByte (sourceOf F) h) _ (record { charged = g .charged; grown = g .grown }) (scanByte F C (suc q) b r h) l
 
-    stretchComes : (m n : ℕ) → n ≤ m → GoAgrees m n (within T nested (sourceOf F) (collectingOf C) reading n)
+    stretchComes : (m n : ℕ) → n ≤ m → GoAgrees m n (within G nested (sourceOf F) (collectingOf C) reading n)
     unfolding within GoAgrees To
     stretchComes m zero bound q [] h g l =
-        endComes d m base nested (within T nested (sourceOf F) (collectingOf C) reading 0) F C q (scannedEnd h) _
+        endComes d m base nested (within G nested (sourceOf F) (collectingOf C) reading 0) F C q (scannedEnd h) _
         (record { charged = g .charged; grown = g .grown })
         (scanEnd F C reading f q h)
     stretchComes m zero bound q (b ∷ r) h g l = absurd (omega arith)
     stretchComes m (suc n) bound q [] h g l =
-        endComes d m base nested (within T nested (sourceOf F) (collectingOf C) reading 0) F C q (scannedEnd h) _
+        endComes d m base nested (within G nested (sourceOf F) (collectingOf C) reading 0) F C q (scannedEnd h) _
         (record { charged = g .charged; grown = g .grown })
         (scanEnd F C reading f q h)
     stretchComes m (suc n) bound q (b ∷ r) h g l =
-        byteComes m n (omega arith) (within T nested (sourceOf F) (collectingOf C) reading n) (stretchComes m n (omega arith)) q b r h g (omega arith)
+        byteComes m n (omega arith) (within G nested (sourceOf F) (collectingOf C) reading n) (stretchComes m n (omega arith)) q b r h g (omega arith)
 
-  agrees : (d : ℕ) → Agrees d (eval T d)
+  agrees : (d : ℕ) → Agrees d (eval G d)
   unfolding Agrees eval GoAgrees
   agrees zero F C reading f base r x g = toDeeper any
   agrees (suc d) F C reading f base r x g =
-      stretchComes d (eval T d) (agrees d) F C reading f base (length r) (length r) (omega arith) 0 r (fresh x) g (omega arith)
+      stretchComes d (eval G d) (agrees d) F C reading f base (length r) (length r) (omega arith) 0 r (fresh x) g (omega arith)
 
   -- 6. The whole run ---------------------------------------------------------------------------------------------------
 
   module _ (t : Bytes) (ds : List Definition) where
     abbrev Whole : ℕ → Result → Type 0
-    Whole d r = Comes T (behind inText toOutput) (Good inText toOutput 0) (length t) d (S.start t ds) r
+    Whole d r = Comes G (behind inText toOutput) (Good inText toOutput 0) (length t) d (S.start t ds) r
 
-    whole : (d : ℕ) → Whole d (eval T d text noCall [] t (R.start ds))
+    whole : (d : ℕ) → Whole d (eval G d text noCall [] t (R.start ds))
     unfolding Agrees S.reading S.callsCharge S.bodiesCharge
     whole d =
         agrees d inText toOutput [] (record { is = refl; room = zero-le; busy = refl }) 0 t (R.start ds)
         (record { charged = omega arith; grown = zero-le })
 
-    gives′ : (d : ℕ) (e : End) {r : Result} → Whole d r → R.ended r ≡ some e → Gets T (stop e) (S.start t ds)
+    gives′ : (d : ℕ) (e : End) {r : Result} → Whole d r → R.ended r ≡ some e → Gets G (stop e) (S.start t ds)
     gives′ d e (toStretch {h = h} g l k) p = let q : R.endAt 0 (h .handed) ≡ e = cc in rw q at g
     gives′ d e (toFinish {e = e′} g) p = let q : e′ ≡ e = cc in rw q at g
     gives′ d e (toDeeper l) p = let z : _≡_ {A = ℕ} 0 1 = cc in absurd (omega arith)
 
-    given′ : (n : ℕ) (e : End) → scans T n (next (S.start t ds)) ≡ stop e → {r : Result} → Whole n r → R.ended r ≡ some e
-    given′ n e p (toStretch g l k) = ap some (getsOnce T g (scansGets T n (S.start t ds) e p))
-    given′ n e p (toFinish g) = ap some (getsOnce T g (scansGets T n (S.start t ds) e p))
-    given′ n e p (toDeeper l) = absurd (notLonger T n (S.start t ds) e p l)
+    given′ : (n : ℕ) (e : End) → scans G n (next (S.start t ds)) ≡ stop e → {r : Result} → Whole n r → R.ended r ≡ some e
+    given′ n e p (toStretch g l k) = ap some (getsOnce G g (scansGets G n (S.start t ds) e p))
+    given′ n e p (toFinish g) = ap some (getsOnce G g (scansGets G n (S.start t ds) e p))
+    given′ n e p (toDeeper l) = absurd (notLonger G n (S.start t ds) e p l)
 
     -- Agreement: the unlimited machine reaches an end if and only if some depth gives that end
-    pub agreement : (e : End) → ((n : ℕ) × (S.scans noLimits T n (next (S.start t ds)) ≡ stop e)) ↔ ((d : ℕ) × (substituted T d t ds ≡ some e))
+    pub agreement : (e : End) → ((n : ℕ) × (S.scans noLimits G n (next (S.start t ds)) ≡ stop e)) ↔ ((d : ℕ) × (substituted G d t ds ≡ some e))
     unfolding substituted
-    agreement e = (λ p. (p .0, given′ (p .0) e (p .1) (whole (p .0))), λ p. getsScans T (gives′ (p .0) e (whole (p .0)) (p .1)))
+    agreement e = (λ p. (p .0, given′ (p .0) e (p .1) (whole (p .0))), λ p. getsScans G (gives′ (p .0) e (whole (p .0)) (p .1)))
 
     -- every depth that is at least the number of scans is enough
-    pub depth-enough : (n k : ℕ) (e : End) → S.scans noLimits T n (next (S.start t ds)) ≡ stop e → substituted T (n + k) t ds ≡ some e
+    pub depth-enough : (n k : ℕ) (e : End) → S.scans noLimits G n (next (S.start t ds)) ≡ stop e → substituted G (n + k) t ds ≡ some e
     unfolding substituted
-    depth-enough n k e p = given′ (n + k) e (scansMore T n k (next (S.start t ds)) e p) (whole (n + k))
+    depth-enough n k e p = given′ (n + k) e (scansMore G n k (next (S.start t ds)) e p) (whole (n + k))
 
     -- all depths that give an end give the same one
-    pub depth-once : (d d′ : ℕ) (e e′ : End) → substituted T d t ds ≡ some e → substituted T d′ t ds ≡ some e′ → e ≡ e′
+    pub depth-once : (d d′ : ℕ) (e e′ : End) → substituted G d t ds ≡ some e → substituted G d′ t ds ≡ some e′ → e ≡ e′
     unfolding substituted
-    depth-once d d′ e e′ p p′ = getsOnce T (gives′ d e (whole d) p) (gives′ d′ e′ (whole d′) p′)
+    depth-once d d′ e e′ p p′ = getsOnce G (gives′ d e (whole d) p) (gives′ d′ e′ (whole d′) p′)

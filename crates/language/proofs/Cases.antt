@@ -12,7 +12,7 @@ use lib.ListN.{length, replicate}
 use lib.Dec.{eqb}
 use Rattle.decimal.specs.Operand.{operand, digitsFrom}
 use Rattle.decimal.specs.Shortest.{digitsOf}
-use Rattle.language.specs.Signs.{Bytes, ascii, standard, meaning, parameterNumber}
+use Rattle.language.specs.Signs.{Bytes, ascii, standard, meaning, parameterDigit, parameterNumber, Language, language, digitsOnly}
 use Rattle.language.specs.Outcomes
 use Rattle.language.specs.Definitions.{macro, Definition, same, newest, altered, live, among}
 use Rattle.language.specs.BuiltIns.{builtIns, deed}
@@ -112,8 +112,8 @@ shared =
     -- the other faults; those in an argument or a list drop no definition of it
     ("10 in an argument", "$DEF,k,<x;>;$j$DEF,m,z;,$k;;", "", report 10 27 0 29 26 2) ∷
     ("o, 11", "$a,~1;", "", report 11 4 0 4 6 0) ∷
-    ("11, no digit behind it", "$j$DEF,m,z;,~x;", "", report 11 13 0 13 17 1) ∷
-    ("12, no digit", "$DEF,k,<~a>;$k;", "", report 12 15 0 16 13 1) ∷
+    ("11, no digit or letter behind it", "$j$DEF,m,z;,~X;", "", report 11 13 0 13 17 1) ∷
+    ("12, no digit or letter", "$DEF,k,<~A>;$k;", "", report 12 15 0 16 13 1) ∷
     ("12 at the end of a body, in an argument", "$DEF,k,<~>;$j$DEF,m,z;$k;;", "", report 12 25 0 26 23 2) ∷
     ("13 at ~", "$DEF,k,<~2>;$k,a;", "", report 13 17 0 18 15 1) ∷
     ("13 at ~ in an argument", "$DEF,k,<~2>;$j$DEF,m,z;$k,a;;", "", report 13 28 0 29 26 2) ∷
@@ -133,6 +133,28 @@ shared =
     ("a result is charged beside its list and `;`", "$DEF,k,<abcdefgh>;$DEF,j,<~1>;$j,$VAL,k;;", "abcdefgh", report 0 41 8 44 44 2) ∷
     ("a result of arithmetic, alike", "$DEF,j,<~1>;$j,$+,1000000,1;;", "1000001", report 0 29 7 32 36 1) ∷
     ("a definition of a body stays charged", "$DEF,mk,<$DEF,m,z;>;$mk;$m,0123456789abcdef;", "z", report 0 44 1 57 44 2) ∷
+    -- Document 02, One: letters
+    ("letters are parameters 10 and 11", "$DEF,k,<~a~b>;$k,1,2,3,4,5,6,7,8,9,A,B;", "AB", report 0 39 2 43 37 1) ∷
+    ("the last letter", "$DEF,k,<~z>;$k,1,2,3,4,5,6,7,8,9,10,11,12,13,14,15,16,17,18,19,20,21,22,23,24,25,26,27,28,29,30,31,32,33,34,35;", "35", report 0 111 2 114 109 1) ∷
+    ("13 at the last letter", "$DEF,k,<~z>;$k,1,2,3,4,5,6,7,8,9,10,11,12,13,14,15,16,17,18,19,20,21,22,23,24,25,26,27,28,29,30,31,32,33,34;", "", report 13 108 0 109 106 1) ∷
+    ("~1 and a 0", "$DEF,k,<~10>;$k,A,B,C,D,E,F,G,H,I,J;", "A0", report 0 36 2 40 34 1) ∷
+    ("13 at a letter", "$DEF,k,<~a>;$k,1;", "", report 13 17 0 18 15 1) ∷
+    ("12 at an upper-case letter", "$DEF,k,<~A>;$k,1;", "", report 12 17 0 18 15 1) ∷
+    ("12 before a", "$DEF,k,<~`>;$k,1;", "", report 12 17 0 18 15 1) ∷
+    ("12 past z", "$DEF,k,<~{>;$k,1;", "", report 12 17 0 18 15 1) ∷
+    ("a quoted ~", "$DEF,k,<<~>a>;$k;", "~a", report 0 17 2 23 15 1) ∷
+    ("put together, then shown unquoted", "$DEF,m,<~><a>;$m;", "", report 13 17 0 18 13 1) ∷
+    ("quoted where it is shown", "$DEF,m,<<~><a>>;$m;", "~a", report 0 19 2 27 17 1) ∷
+    ("a letter in the text", "~a", "~a", report 0 2 2 3 0 0) ∷
+    []
+
+-- scripts with letters in the language before request One
+abbrev before : List Case
+before =
+    ("letters are parameters 10 and 11", "$DEF,k,<~a~b>;$k,1,2,3,4,5,6,7,8,9,A,B;", "", report 12 39 0 40 37 1) ∷
+    ("13 at a letter", "$DEF,k,<~a>;$k,1;", "", report 12 17 0 18 15 1) ∷
+    ("put together, then shown unquoted", "$DEF,m,<~><a>;$m;", "", report 12 17 0 18 13 1) ∷
+    ("quoted where it is shown", "$DEF,m,<<~><a>>;$m;", "~a", report 0 19 2 27 17 1) ∷
     []
 
 -- two texts are equal; not by the definitions' own test, which is tried here
@@ -151,31 +173,34 @@ abbrev ends : End → Bytes → Reported → Bool
 ends e output report = equal (e .output) output && sameReport (reported e) report
 
 -- what the program lends
-abbrev ran : Bytes → End
-ran t = run (limitsOf 16384 65536) standard 10000000 t builtIns
+abbrev ran : Language → Bytes → End
+ran G t = run (limitsOf 16384 65536) G 10000000 t builtIns
 
-abbrev byScanning : Case → Bool
-byScanning c = ends (ran (ascii (c .1))) (ascii (c .2)) (c .3)
+abbrev byScanning : Language → Case → Bool
+byScanning G c = ends (ran G (ascii (c .1))) (ascii (c .2)) (c .3)
 
 abbrev endsAs : Option End → Bytes → Reported → Bool
 endsAs none output report = false
 endsAs (some e) output report = ends e output report
 
-abbrev bySubstitution : Case → Bool
-bySubstitution c = endsAs (substituted standard 100 (ascii (c .1)) builtIns) (ascii (c .2)) (c .3)
+abbrev bySubstitution : Language → Case → Bool
+bySubstitution G c = endsAs (substituted G 100 (ascii (c .1)) builtIns) (ascii (c .2)) (c .3)
 
 -- the names of the cases that fail a test
 abbrev failing : (Case → Bool) → List Case → List String
 failing test [] = []
 failing test (c ∷ cs) = let r = failing test cs in cond (test c) r (c .0 ∷ r)
 
-pub cases-by-scanning : (failing byScanning starred ≡ []) × (failing byScanning shared ≡ [])
-unfolding run scan scans same newest altered live among deed argumentsPrice definitionsPrice callsCharge bodiesCharge reading meaning operand digitsFrom digitsOf
-cases-by-scanning = (refl, refl)
+abbrev now : Language
+now = language standard
 
-pub cases-by-substitution : (failing bySubstitution starred ≡ []) × (failing bySubstitution shared ≡ [])
+pub cases-by-scanning : (failing (byScanning now) starred ≡ []) × (failing (byScanning now) shared ≡ []) × (failing (byScanning (digitsOnly standard)) before ≡ [])
+unfolding run scan scans same newest altered live among deed argumentsPrice definitionsPrice callsCharge bodiesCharge reading meaning operand digitsFrom digitsOf
+cases-by-scanning = (refl, refl, refl)
+
+pub cases-by-substitution : (failing (bySubstitution now) starred ≡ []) × (failing (bySubstitution now) shared ≡ []) × (failing (bySubstitution (digitsOnly standard)) before ≡ [])
 unfolding substituted eval within same newest altered live among deed argumentsPrice definitionsPrice meaning operand digitsFrom digitsOf
-cases-by-substitution = (refl, refl)
+cases-by-substitution = (refl, refl, refl)
 
 -- Definitions that are left, by name, value and room, newest first -----------------------------------------------------------
 
@@ -200,10 +225,10 @@ leftBy none = none
 leftBy (some e) = some (e .definitions)
 
 abbrev LeftByScanning : Left → Type 0
-LeftByScanning c = ran (ascii (c .0)) .definitions ≡ c .1 ++ builtIns
+LeftByScanning c = ran now (ascii (c .0)) .definitions ≡ c .1 ++ builtIns
 
 abbrev LeftBySubstitution : Left → Type 0
-LeftBySubstitution c = leftBy (substituted standard 100 (ascii (c .0)) builtIns) ≡ some (c .1 ++ builtIns)
+LeftBySubstitution c = leftBy (substituted now 100 (ascii (c .0)) builtIns) ≡ some (c .1 ++ builtIns)
 
 pub left-by-scanning : LeftByScanning updated × LeftByScanning listAndBody × LeftByScanning beforeRefusal
 unfolding run scan scans same newest altered live among deed argumentsPrice definitionsPrice callsCharge bodiesCharge reading meaning
@@ -223,14 +248,14 @@ reportOf none = none
 reportOf (some e) = some (reported e)
 
 pub started-by-scanning :
-    (reported (run noLimits standard 100 [] oneDefined) ≡ report 0 0 0 1 7 1)
-    × (reported (run noLimits standard 100 (ascii "$k;") oneDefined) ≡ report 0 3 2 7 13 1)
+    (reported (run noLimits now 100 [] oneDefined) ≡ report 0 0 0 1 7 1)
+    × (reported (run noLimits now 100 (ascii "$k;") oneDefined) ≡ report 0 3 2 7 13 1)
 unfolding run scan scans same newest live among deed argumentsPrice definitionsPrice callsCharge bodiesCharge reading meaning
 started-by-scanning = (refl, refl)
 
 pub started-by-substitution :
-    (reportOf (substituted standard 100 [] oneDefined) ≡ some (report 0 0 0 1 7 1))
-    × (reportOf (substituted standard 100 (ascii "$k;") oneDefined) ≡ some (report 0 3 2 7 13 1))
+    (reportOf (substituted now 100 [] oneDefined) ≡ some (report 0 0 0 1 7 1))
+    × (reportOf (substituted now 100 (ascii "$k;") oneDefined) ≡ some (report 0 3 2 7 13 1))
 unfolding substituted eval within same newest live among deed argumentsPrice definitionsPrice meaning
 started-by-substitution = (refl, refl)
 
@@ -241,12 +266,25 @@ withNumber b none r = r
 withNumber b (some k) r = (b, k) ∷ r
 
 -- those of n bytes from b on
-abbrev numbered : ℕ → ℕ → List (ℕ × ℕ)
-numbered b zero = []
-numbered b (suc n) = withNumber b (parameterNumber b) (numbered (suc b) n)
+abbrev numbered : (ℕ → Option ℕ) → ℕ → ℕ → List (ℕ × ℕ)
+numbered number b zero = []
+numbered number b (suc n) = withNumber b (number b) (numbered number (suc b) n)
 
-pub parameter-bytes : numbered 0 256 ≡ (48, 0) ∷ (49, 1) ∷ (50, 2) ∷ (51, 3) ∷ (52, 4) ∷ (53, 5) ∷ (54, 6) ∷ (55, 7) ∷ (56, 8) ∷ (57, 9) ∷ []
+abbrev digits : List (ℕ × ℕ)
+digits = (48, 0) ∷ (49, 1) ∷ (50, 2) ∷ (51, 3) ∷ (52, 4) ∷ (53, 5) ∷ (54, 6) ∷ (55, 7) ∷ (56, 8) ∷ (57, 9) ∷ []
+
+abbrev letters : List (ℕ × ℕ)
+letters =
+    (97, 10) ∷ (98, 11) ∷ (99, 12) ∷ (100, 13) ∷ (101, 14) ∷ (102, 15) ∷ (103, 16) ∷ (104, 17) ∷ (105, 18) ∷
+    (106, 19) ∷ (107, 20) ∷ (108, 21) ∷ (109, 22) ∷ (110, 23) ∷ (111, 24) ∷ (112, 25) ∷ (113, 26) ∷ (114, 27) ∷
+    (115, 28) ∷ (116, 29) ∷ (117, 30) ∷ (118, 31) ∷ (119, 32) ∷ (120, 33) ∷ (121, 34) ∷ (122, 35) ∷ []
+
+pub parameter-bytes : numbered parameterNumber 0 256 ≡ digits ++ letters
 parameter-bytes = refl
+
+-- before request One
+pub parameter-digits : numbered parameterDigit 0 256 ≡ digits
+parameter-digits = refl
 
 -- The numbers that are ends -------------------------------------------------------------------------------------------------
 

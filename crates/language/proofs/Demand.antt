@@ -6,7 +6,7 @@ use mathlib.Core.Bool.{Bool, true, false, cond}
 use mathlib.Core.Option.{Option, none, some}
 use lib.ListN.{length}
 use lib.Dec.{T as So}
-use Rattle.language.specs.Signs.{Table}
+use Rattle.language.specs.Signs.{Language, language}
 use Rattle.language.specs.Outcomes
 use Rattle.language.specs.Outcomes.{endOfText}
 use Rattle.language.specs.BuiltIns.{builtIns}
@@ -18,8 +18,8 @@ use Rattle.language.proofs.Agree.{agreement}
 use Rattle.language.proofs.Limits.{within-lent, ended-alike, fitting-run, unlimited-ends}
 
 module _ (g : Given) where
-  abbrev T : Table
-  T = g .table
+  abbrev G : Language
+  G = language (g .table)
 
   abbrev c : ℕ
   c = length (g .lent .cells)
@@ -30,14 +30,14 @@ module _ (g : Given) where
   afforded : definitionsPrice (g .definitions) ≤ c → (e : End) → ending g ≡ e → So (endOfText (e .outcome)) → Affords g e
   afforded h e p q =
       let q′ : So (endOfText (ending g .outcome)) = subst (λ (x : End). So (endOfText (x .outcome))) (sym p) q in
-      let d = agreement T (g .text) (g .definitions) (ending g) .0 (g .allowance, ended-alike T (g .text) (g .definitions) c o (g .allowance) q′) in
-      let w = within-lent T (g .text) (g .definitions) c o (g .allowance) h in
+      let d = agreement G (g .text) (g .definitions) (ending g) .0 (g .allowance, ended-alike G (g .text) (g .definitions) c o (g .allowance) q′) in
+      let w = within-lent G (g .text) (g .definitions) c o (g .allowance) h in
       subst (Affords g) p (record { depth = d .0; comes = d .1; enoughCells = w .cells; enoughOutput = w .output; enoughScans = w .scans })
 
   ends : (e : End) → Affords g e → (ending g ≡ e) × So (endOfText (e .outcome))
   ends e a =
-      let m = agreement T (g .text) (g .definitions) e .1 (a .depth, a .comes) in
-      (fitting-run T (g .text) (g .definitions) c o (g .allowance) (m .0) e (m .1) (record { cells = a .enoughCells; output = a .enoughOutput; scans = a .enoughScans }), unlimited-ends T (g .text) (g .definitions) (m .0) e (m .1))
+      let m = agreement G (g .text) (g .definitions) e .1 (a .depth, a .comes) in
+      (fitting-run G (g .text) (g .definitions) c o (g .allowance) (m .0) e (m .1) (record { cells = a .enoughCells; output = a .enoughOutput; scans = a .enoughScans }), unlimited-ends G (g .text) (g .definitions) (m .0) e (m .1))
 
   -- Demand 3, from any definitions that can be afforded
   pub demand3 : definitionsPrice (g .definitions) ≤ c → Demand3 g (ending g)

@@ -8,7 +8,7 @@ use mathlib.Core.List.{List, [], _∷_}
 use mathlib.Core.Option.{Option, none, some}
 use lib.ListN.{length}
 use lib.Dec.{ltb}
-use Rattle.language.specs.Signs.{Bytes, Table, Meaning, copied, leftOut, opens, separates, applies, fetches, unquotes, meaning, parameterNumber}
+use Rattle.language.specs.Signs.{Bytes, Language, Meaning, copied, leftOut, opens, separates, applies, fetches, unquotes, meaning}
 use Rattle.language.specs.Definitions.{Definition}
 use Rattle.language.specs.BuiltIns.{Deed, reads, defines, gives, alters, faulty, deed, parameter}
 use Rattle.language.specs.Charge.{endPrice}
@@ -66,13 +66,14 @@ module _ (ev ev′ : Eval) (up : EvalBelow ev ev′) (go go′ : Go) (on : GoBel
   numberBelow none list c r h = same
   numberBelow (some k) list c r h = suppliedBelow (ltb k (length list)) c (parameter k list) r h
 
-  fetchBelow : (src : Source) (c : Collecting) (b : ℕ) (r : Bytes) (h : Held) → Below (R.fetch ev go src c b r h) (R.fetch ev′ go′ src c b r h)
+  fetchBelow : (G : Language) (src : Source) (c : Collecting) (b : ℕ) (r : Bytes) (h : Held)
+      → Below (R.fetch ev go G src c b r h) (R.fetch ev′ go′ G src c b r h)
   unfolding GoBelow
-  fetchBelow text noCall b r h = on 0 r _
-  fetchBelow text outer b r h = same
-  fetchBelow text own b r h = same
-  fetchBelow (body list) c b [] h = same
-  fetchBelow (body list) c b (x ∷ r) h = numberBelow (parameterNumber x) list c r h
+  fetchBelow G text noCall b r h = on 0 r _
+  fetchBelow G text outer b r h = same
+  fetchBelow G text own b r h = same
+  fetchBelow G (body list) c b [] h = same
+  fetchBelow G (body list) c b (x ∷ r) h = numberBelow (G .parameterNumber x) list c r h
 
   unquoteBelow : (src : Source) (c : Collecting) (b : ℕ) (r : Bytes) (h : Held) → Below (R.unquote ev go src c b r h) (R.unquote ev′ go′ src c b r h)
   unfolding GoBelow
@@ -81,42 +82,42 @@ module _ (ev ev′ : Eval) (up : EvalBelow ev ev′) (go go′ : Go) (on : GoBel
   unquoteBelow text own b r h = same
   unquoteBelow (body list) c b r h = on 0 r _
 
-  byteBelow : (M : Meaning) (src : Source) (c : Collecting) (reading : List ℕ) (b : ℕ) (r : Bytes) (h : Held)
-      → Below (R.byte ev go M src c reading b r h) (R.byte ev′ go′ M src c reading b r h)
+  byteBelow : (G : Language) (M : Meaning) (src : Source) (c : Collecting) (reading : List ℕ) (b : ℕ) (r : Bytes) (h : Held)
+      → Below (R.byte ev go G M src c reading b r h) (R.byte ev′ go′ G M src c reading b r h)
   unfolding GoBelow EvalBelow
-  byteBelow (copied q) src c reading b r h = on q r _
-  byteBelow (leftOut q) src c reading b r h = on q r h
-  byteBelow opens src c reading b r h =
+  byteBelow G (copied q) src c reading b r h = on q r _
+  byteBelow G (leftOut q) src c reading b r h = on q r h
+  byteBelow G opens src c reading b r h =
       belowThen (up src own reading r _) λ r₁ h₁.
       let x = R.charged endPrice (h₁ .handed) in
       let list = R.listOf (h₁ .value) in
       performBelow (deed reading list (x .definitions)) c reading (length (h .handed .definitions)) list r₁ h x
-  byteBelow separates src c reading b r h = on 0 r _
-  byteBelow applies src c reading b r h = applyBelow src c b r h
-  byteBelow fetches src c reading b r h = fetchBelow src c b r h
-  byteBelow unquotes src c reading b r h = unquoteBelow src c b r h
+  byteBelow G separates src c reading b r h = on 0 r _
+  byteBelow G applies src c reading b r h = applyBelow src c b r h
+  byteBelow G fetches src c reading b r h = fetchBelow G src c b r h
+  byteBelow G unquotes src c reading b r h = unquoteBelow src c b r h
 
-module _ (T : Table) where
+module _ (G : Language) where
   withinBelow : (ev ev′ : Eval) → EvalBelow ev ev′ → (src : Source) (c : Collecting) (reading : List ℕ) (n : ℕ)
-      → GoBelow (within T ev src c reading n) (within T ev′ src c reading n)
+      → GoBelow (within G ev src c reading n) (within G ev′ src c reading n)
   unfolding within GoBelow
   withinBelow ev ev′ up src c reading zero q [] h = same
   withinBelow ev ev′ up src c reading zero q (b ∷ r) h = unknown
   withinBelow ev ev′ up src c reading (suc n) q [] h = same
   withinBelow ev ev′ up src c reading (suc n) q (b ∷ r) h =
-      byteBelow ev ev′ up (within T ev src c reading n) (within T ev′ src c reading n) (withinBelow ev ev′ up src c reading n) (meaning T q b) src c reading b r _
+      byteBelow ev ev′ up (within G ev src c reading n) (within G ev′ src c reading n) (withinBelow ev ev′ up src c reading n) G (meaning (G .table) q b) src c reading b r _
 
-  evalBelow : (d : ℕ) → EvalBelow (eval T d) (eval T (suc d))
+  evalBelow : (d : ℕ) → EvalBelow (eval G d) (eval G (suc d))
   unfolding eval EvalBelow GoBelow
   evalBelow zero src c reading r x = unknown
-  evalBelow (suc d) src c reading r x = withinBelow (eval T d) (eval T (suc d)) (evalBelow d) src c reading (length r) 0 r (fresh x)
+  evalBelow (suc d) src c reading r x = withinBelow (eval G d) (eval G (suc d)) (evalBelow d) src c reading (length r) 0 r (fresh x)
 
   endedBelow : {r r′ : Result} {e : End} → Below r r′ → ended r ≡ some e → ended r′ ≡ some e
   endedBelow unknown p = let z : _≡_ {A = ℕ} 0 1 = cc in absurd (omega arith)
   endedBelow same p = p
 
   -- more depth never takes an end away
-  pub depth-more : (t : Bytes) (ds : List Definition) (d k : ℕ) (e : End) → substituted T d t ds ≡ some e → substituted T (d + k) t ds ≡ some e
+  pub depth-more : (t : Bytes) (ds : List Definition) (d k : ℕ) (e : End) → substituted G d t ds ≡ some e → substituted G (d + k) t ds ≡ some e
   unfolding substituted EvalBelow
   depth-more t ds d zero e p = rw (add-zero d) p
   depth-more t ds d (suc k) e p = rw (add-suc d k) (endedBelow (evalBelow (d + k) text noCall [] t (R.start ds)) (depth-more t ds d k e p))

@@ -9,7 +9,7 @@ use lib.ListN.{length, length-append}
 use lib.Dec.{ltb}
 use borrow.Author.Tests.{ltb-true, ltb-false}
 use Rattle.decimal.specs.Arithmetic.{Result, number, refused, calculated}
-use Rattle.language.specs.Signs.{Bytes, Table, Meaning, copied, leftOut, opens, separates, applies, fetches, unquotes, meaning, parameterNumber}
+use Rattle.language.specs.Signs.{Bytes, Language, Meaning, copied, leftOut, opens, separates, applies, fetches, unquotes, meaning}
 use Rattle.language.specs.Outcomes
 use Rattle.language.specs.declared.built_ins.BuiltIn.{BuiltIn}
 use Rattle.language.specs.declared.built_ins.BuiltIn.the-variants.{Def, Val, Update, Arithmetic}
@@ -282,11 +282,11 @@ module _ (L : Limits) (N : ℕ) where
   unfolding S.bodiesCharge
   restKept t q cs b bs w r i = record { framed = framesRest r (i .framed); afforded = i .afforded; text = i .text }
 
-  fetchKept : (t : Bytes) (q : ℕ) (cs : List Call) (bs : List Body) (w : Standing) (b : ℕ) → Invariant N (state t q cs bs w)
-      → Kept N (S.fetch L bs b (state t q cs bs w))
-  fetchKept t q [] [] w b i = putKept t q [] [] w (b ∷ []) i
-  fetchKept t q (c ∷ cs) [] w b i = refused′ _ (state t q (c ∷ cs) [] w) i
-  fetchKept t q cs (body ∷ bodies) w b i = next′ (body .rest)
+  fetchKept : (G : Language) (t : Bytes) (q : ℕ) (cs : List Call) (bs : List Body) (w : Standing) (b : ℕ) → Invariant N (state t q cs bs w)
+      → Kept N (S.fetch L G bs b (state t q cs bs w))
+  fetchKept G t q [] [] w b i = putKept t q [] [] w (b ∷ []) i
+  fetchKept G t q (c ∷ cs) [] w b i = refused′ _ (state t q (c ∷ cs) [] w) i
+  fetchKept G t q cs (body ∷ bodies) w b i = next′ (body .rest)
     where
       s : State
       s = state t q cs (body ∷ bodies) w
@@ -299,18 +299,18 @@ module _ (L : Limits) (N : ℕ) where
       number′ none r = refused′ _ (S.withBodies (S.withRest r body ∷ bodies) s) (restKept t q cs body bodies w r i)
       number′ (some k) r = supplied (ltb k (length (body .list))) (parameter k (body .list)) r
 
-      next′ : (r : Bytes) → Kept N (S.fetchInBody L r body bodies s)
+      next′ : (r : Bytes) → Kept N (S.fetchInBody L G r body bodies s)
       next′ [] = refused′ _ s i
-      next′ (x ∷ r) = number′ (parameterNumber x) r
+      next′ (x ∷ r) = number′ (G .parameterNumber x) r
 
-  byteKept : (M : Meaning) (b : ℕ) (s : State) → Invariant N s → Kept N (S.byte L M b s)
-  byteKept (copied q) b s i = putKept′ (b ∷ []) (S.withQuotes q s) (record { framed = i .framed; afforded = i .afforded; text = i .text })
-  byteKept (leftOut q) b s i = goesOn (record { framed = i .framed; afforded = i .afforded; text = i .text })
-  byteKept opens b s i = openKept s i
-  byteKept separates b s i = separateKept (s .text) (s .quotes) (s .calls) (s .bodies) (s .standing) b i
-  byteKept applies b s i = applyKept (S.ownCall s) b s i refl
-  byteKept fetches b s i = fetchKept (s .text) (s .quotes) (s .calls) (s .bodies) (s .standing) b i
-  byteKept unquotes b s i = go (s .bodies) (s .calls)
+  byteKept : (G : Language) (M : Meaning) (b : ℕ) (s : State) → Invariant N s → Kept N (S.byte L G M b s)
+  byteKept G (copied q) b s i = putKept′ (b ∷ []) (S.withQuotes q s) (record { framed = i .framed; afforded = i .afforded; text = i .text })
+  byteKept G (leftOut q) b s i = goesOn (record { framed = i .framed; afforded = i .afforded; text = i .text })
+  byteKept G opens b s i = openKept s i
+  byteKept G separates b s i = separateKept (s .text) (s .quotes) (s .calls) (s .bodies) (s .standing) b i
+  byteKept G applies b s i = applyKept (S.ownCall s) b s i refl
+  byteKept G fetches b s i = fetchKept G (s .text) (s .quotes) (s .calls) (s .bodies) (s .standing) b i
+  byteKept G unquotes b s i = go (s .bodies) (s .calls)
     where
       go : (bs : List Body) (cs : List Call) → Kept N (S.unquote L bs cs b s)
       go [] [] = refused′ _ s i
@@ -339,20 +339,20 @@ module _ (L : Limits) (N : ℕ) where
   countedKept s i = record { framed = i .framed; afforded = i .afforded; text = omega (arith, i .text) }
 
   -- Every scan keeps the invariant.
-  pub invariantKept : (T : Table) (s : State) → Invariant N s → Kept N (S.scan L T s)
+  pub invariantKept : (G : Language) (s : State) → Invariant N s → Kept N (S.scan L G s)
   unfolding S.scan
-  invariantKept T s i = go (s .text) (s .bodies) i
+  invariantKept G s i = go (s .text) (s .bodies) i
     where
       inBody : (t : Bytes) (b : Body) (bs : List Body) (r : Bytes) → b .rest ≡ r → Invariant N (state t (s .quotes) (s .calls) (b ∷ bs) (s .standing))
-          → Kept N (S.fromBody L T r b bs (state t (s .quotes) (s .calls) (b ∷ bs) (s .standing)))
+          → Kept N (S.fromBody L G r b bs (state t (s .quotes) (s .calls) (b ∷ bs) (s .standing)))
       inBody t b bs [] e i =
           bodyEndKept t (s .quotes) (s .calls) b bs ((S.counting 0 s) .standing) _ refl (countedKept (state t (s .quotes) (s .calls) (b ∷ bs) (s .standing)) i)
       inBody t b bs (x ∷ r) e i =
-          byteKept (meaning T (s .quotes) x) x _
+          byteKept G (meaning (G .table) (s .quotes) x) x _
           (restKept t (s .quotes) (s .calls) b bs ((S.counting 0 s) .standing) r (countedKept (state t (s .quotes) (s .calls) (b ∷ bs) (s .standing)) i))
 
       go : (t : Bytes) (bs : List Body) → Invariant N (state t (s .quotes) (s .calls) bs (s .standing))
-          → Kept N (S.from L T bs t (state t (s .quotes) (s .calls) bs (s .standing)))
+          → Kept N (S.from L G bs t (state t (s .quotes) (s .calls) bs (s .standing)))
       go [] [] i = textKept (s .quotes) (s .calls)
         where
           textKept : (q : ℕ) (cs : List Call) → Kept N (S.textEnd L q cs (S.counting 0 (state [] (s .quotes) (s .calls) [] (s .standing))))
@@ -362,7 +362,7 @@ module _ (L : Limits) (N : ℕ) where
       go (b ∷ t) [] i =
           let s₁ = S.withText t (S.counting 1 (state (b ∷ t) (s .quotes) (s .calls) [] (s .standing))) in
           let j : Invariant N s₁ = record { framed = i .framed; afforded = i .afforded; text = omega (arith, i .text) } in
-          byteKept (meaning T (s .quotes) b) b s₁ j
+          byteKept G (meaning (G .table) (s .quotes) b) b s₁ j
       go t (b ∷ bs) i = inBody t b bs (b .rest) refl i
 
 -- It holds of the fresh standing, so of every state that a run reaches; and no end has read more than the text.
@@ -370,6 +370,6 @@ pub invariantStart : (t : Bytes) (ds : List Definition) → Invariant (length t)
 unfolding S.callsCharge S.bodiesCharge
 invariantStart t ds = record { framed = outermost; afforded = omega arith; text = omega arith }
 
-pub invariantAlways : (L : Limits) (T : Table) (t : Bytes) (ds : List Definition) (n : ℕ)
-    → Leads (Invariant (length t)) (ReadWithin (length t)) (S.scans L T n (next (S.start t ds)))
-invariantAlways L T t ds n = scansLead L T (invariantKept L (length t) T) n (next (S.start t ds)) (goesOn (invariantStart t ds))
+pub invariantAlways : (L : Limits) (G : Language) (t : Bytes) (ds : List Definition) (n : ℕ)
+    → Leads (Invariant (length t)) (ReadWithin (length t)) (S.scans L G n (next (S.start t ds)))
+invariantAlways L G t ds n = scansLead L G (invariantKept L (length t) G) n (next (S.start t ds)) (goesOn (invariantStart t ds))

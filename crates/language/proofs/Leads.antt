@@ -4,7 +4,7 @@ use native.Mathlib.Omega.{arith}
 use mathlib.Core.Path.{_≡_, refl, subst}
 use mathlib.Core.Bool.{cond}
 use lib.ListN.{length}
-use Rattle.language.specs.Signs.{Bytes, Table}
+use Rattle.language.specs.Signs.{Bytes, Language}
 use Rattle.language.specs.Outcomes
 use Rattle.language.specs.Ends.{End}
 use Rattle.language.specs.Scanning.{State, Step, next, stop, Limits}
@@ -38,18 +38,18 @@ module _ {P : State → Type 0} {Q : End → Type 0} where
       go (ended q) = q
 
   -- an invariant of every scan is one of every run
-  pub scansLead : (L : Limits) (T : Table) → ((s : State) → P s → Leads P Q (S.scan L T s)) → (n : ℕ) (t : Step) → Leads P Q t → Leads P Q (S.scans L T n t)
+  pub scansLead : (L : Limits) (G : Language) → ((s : State) → P s → Leads P Q (S.scan L G s)) → (n : ℕ) (t : Step) → Leads P Q t → Leads P Q (S.scans L G n t)
   unfolding S.scans
-  scansLead L T keep zero t l = l
-  scansLead L T keep (suc n) (next s) (goesOn p) = scansLead L T keep n (S.scan L T s) (keep s p)
-  scansLead L T keep (suc n) (stop e) l = l
+  scansLead L G keep zero t l = l
+  scansLead L G keep (suc n) (next s) (goesOn p) = scansLead L G keep n (S.scan L G s) (keep s p)
+  scansLead L G keep (suc n) (stop e) l = l
 
 -- a state is not an end
 pub not-end : {A : Type 0} {s : State} {e : End} → next s ≡ stop e → A
 not-end p = let z : _≡_ {A = ℕ} 0 1 = cc in absurd (omega arith)
 
 -- an end stays
-pub scans-stop : (L : Limits) (T : Table) (n : ℕ) (e : End) → S.scans L T n (stop e) ≡ stop e
+pub scans-stop : (L : Limits) (G : Language) (n : ℕ) (e : End) → S.scans L G n (stop e) ≡ stop e
 unfolding S.scans
-scans-stop L T zero e = refl
-scans-stop L T (suc n) e = refl
+scans-stop L G zero e = refl
+scans-stop L G (suc n) e = refl

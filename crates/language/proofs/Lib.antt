@@ -8,6 +8,7 @@ pub mod Depth
 pub mod Quotes
 pub mod Octets
 pub mod Limits
+pub mod Letters
 pub mod Demand
 pub mod Table
 pub mod Cases

@@ -13,7 +13,7 @@ use lib.IntN.{ℤ}
 use Rattle.decimal.specs.declared.operations.Operation.{Operation}
 use Rattle.decimal.specs.Operand.{operand, inRange}
 use Rattle.decimal.specs.Arithmetic.{Result, divides, isZero, exact, ofOperands}
-use Rattle.language.specs.Signs.{Bytes, Table, Meaning, copied, leftOut, opens, separates, applies, fetches, unquotes, meaning, parameterNumber}
+use Rattle.language.specs.Signs.{Bytes, Language, Meaning, copied, leftOut, opens, separates, applies, fetches, unquotes, meaning}
 use Rattle.language.specs.Outcomes
 use Rattle.language.specs.Outcomes.{endOfText}
 use Rattle.language.specs.declared.built_ins.BuiltIn.{BuiltIn}
@@ -36,8 +36,8 @@ standingOf (next s) = s .standing
 standingOf (stop e) = record { definitions = e .definitions; output = e .output; read = e .read; scans = e .scans; most = e .most }
 
 -- where at most n scans of a text come to, from definitions
-abbrev pub after : Limits → Table → Bytes → List Definition → ℕ → Step
-after L T t ds n = scans L T n (next (start t ds))
+abbrev pub after : Limits → Language → Bytes → List Definition → ℕ → Step
+after L G t ds n = scans L G n (next (start t ds))
 
 -- Limits -------------------------------------------------------------------------------------------------------------
 
@@ -319,7 +319,7 @@ module _ (L : Limits) where
   fetchInText-alike [] b s = put-alike (s .calls) (b ∷ []) s
   fetchInText-alike (c ∷ cs) b s = kept refl tt
 
-  -- `~r` in a body, where r is a digit
+  -- `~r` in a body, where r stands for a parameter
   supplied-alike : (given : Bool) (p : Bytes) (s : State) → Alike (s .standing) (S.fetchSupplied L given p s) (S.fetchSupplied noLimits given p s)
   supplied-alike true p s = put-alike (s .calls) p s
   supplied-alike false p s = kept refl tt
@@ -330,15 +330,16 @@ module _ (L : Limits) where
   number-alike (some k) list s = supplied-alike (ltb k (length list)) (parameter k list) s
 
   -- `~` in a body
-  fetchInBody-alike : (r : Bytes) (body : Body) (bodies : List Body) (s : State)
-      → Alike (s .standing) (S.fetchInBody L r body bodies s) (S.fetchInBody noLimits r body bodies s)
-  fetchInBody-alike [] body bodies s = kept refl tt
-  fetchInBody-alike (b ∷ r) body bodies s = number-alike (parameterNumber b) (body .list) (withBodies (withRest r body ∷ bodies) s)
+  fetchInBody-alike : (G : Language) (r : Bytes) (body : Body) (bodies : List Body) (s : State)
+      → Alike (s .standing) (S.fetchInBody L G r body bodies s) (S.fetchInBody noLimits G r body bodies s)
+  fetchInBody-alike G [] body bodies s = kept refl tt
+  fetchInBody-alike G (b ∷ r) body bodies s = number-alike (G .parameterNumber b) (body .list) (withBodies (withRest r body ∷ bodies) s)
 
   -- `~`
-  fetch-alike : (bodies : List Body) (b : ℕ) (s : State) → Alike (s .standing) (S.fetch L bodies b s) (S.fetch noLimits bodies b s)
-  fetch-alike [] b s = fetchInText-alike (s .calls) b s
-  fetch-alike (body ∷ bodies) b s = fetchInBody-alike (body .rest) body bodies s
+  fetch-alike : (G : Language) (bodies : List Body) (b : ℕ) (s : State)
+      → Alike (s .standing) (S.fetch L G bodies b s) (S.fetch noLimits G bodies b s)
+  fetch-alike G [] b s = fetchInText-alike (s .calls) b s
+  fetch-alike G (body ∷ bodies) b s = fetchInBody-alike G (body .rest) body bodies s
 
   -- `>` outside of quotes
   unquote-alike : (bodies : List Body) (cs : List Call) (b : ℕ) (s : State)
@@ -348,14 +349,14 @@ module _ (L : Limits) where
   unquote-alike (body ∷ bodies) cs b s = put-alike (s .calls) (b ∷ []) s
 
   -- a byte, by its meaning
-  byte-alike : (m : Meaning) (b : ℕ) (s : State) → Alike (s .standing) (S.byte L m b s) (S.byte noLimits m b s)
-  byte-alike (copied q) b s = put-alike (s .calls) (b ∷ []) (withQuotes q s)
-  byte-alike (leftOut q) b s = kept refl tt
-  byte-alike opens b s = charged openPrice s (kept refl tt)
-  byte-alike separates b s = separate-alike (s .calls) b s
-  byte-alike applies b s = apply-alike (ownCall s) b s
-  byte-alike fetches b s = fetch-alike (s .bodies) b s
-  byte-alike unquotes b s = unquote-alike (s .bodies) (s .calls) b s
+  byte-alike : (G : Language) (m : Meaning) (b : ℕ) (s : State) → Alike (s .standing) (S.byte L G m b s) (S.byte noLimits G m b s)
+  byte-alike G (copied q) b s = put-alike (s .calls) (b ∷ []) (withQuotes q s)
+  byte-alike G (leftOut q) b s = kept refl tt
+  byte-alike G opens b s = charged openPrice s (kept refl tt)
+  byte-alike G separates b s = separate-alike (s .calls) b s
+  byte-alike G applies b s = apply-alike (ownCall s) b s
+  byte-alike G fetches b s = fetch-alike G (s .bodies) b s
+  byte-alike G unquotes b s = unquote-alike (s .bodies) (s .calls) b s
 
   -- the end of the text
   textEnd-alike : (q : ℕ) (cs : List Call) (s : State) → Alike (s .standing) (S.textEnd L q cs s) (S.textEnd noLimits q cs s)
@@ -369,108 +370,108 @@ module _ (L : Limits) where
   bodyEnd-alike true body bodies s = kept refl tt
   bodyEnd-alike false body bodies s = kept refl tt
 
-  module _ (T : Table) where
+  module _ (G : Language) where
     -- a scan in a body
     fromBody-alike : (r : Bytes) (body : Body) (bodies : List Body) (s : State)
-        → Alike (counting 0 s .standing) (S.fromBody L T r body bodies s) (S.fromBody noLimits T r body bodies s)
+        → Alike (counting 0 s .standing) (S.fromBody L G r body bodies s) (S.fromBody noLimits G r body bodies s)
     fromBody-alike [] body bodies s = bodyEnd-alike (ownCall s) body bodies (counting 0 s)
-    fromBody-alike (b ∷ r) body bodies s = byte-alike (meaning T (s .quotes) b) b (withBodies (withRest r body ∷ bodies) (counting 0 s))
+    fromBody-alike (b ∷ r) body bodies s = byte-alike G (meaning (G .table) (s .quotes) b) b (withBodies (withRest r body ∷ bodies) (counting 0 s))
 
     -- a scan in a body or in the text, where it takes k bytes
     from-alike : (bodies : List Body) (t : Bytes) (s : State)
-        → (k : ℕ) × Alike (counting k s .standing) (S.from L T bodies t s) (S.from noLimits T bodies t s)
+        → (k : ℕ) × Alike (counting k s .standing) (S.from L G bodies t s) (S.from noLimits G bodies t s)
     from-alike [] [] s = (0, textEnd-alike (s .quotes) (s .calls) (counting 0 s))
-    from-alike [] (b ∷ t) s = (1, byte-alike (meaning T (s .quotes) b) b (withText t (counting 1 s)))
+    from-alike [] (b ∷ t) s = (1, byte-alike G (meaning (G .table) (s .quotes) b) b (withText t (counting 1 s)))
     from-alike (body ∷ bodies) t s = (0, fromBody-alike (body .rest) body bodies s)
 
     -- a scan: it counts itself and the k bytes that it takes from the text
-    scan-alike : (s : State) → (k : ℕ) × Alike (counting k s .standing) (scan L T s) (scan noLimits T s)
+    scan-alike : (s : State) → (k : ℕ) × Alike (counting k s .standing) (scan L G s) (scan noLimits G s)
     unfolding scan
     scan-alike s = from-alike (s .bodies) (s .text) s
 
 -- Runs under any limits ----------------------------------------------------------------------------------------------
 
-module _ (L : Limits) (T : Table) where
+module _ (L : Limits) (G : Language) where
   -- m scans, and then k more
-  scans-sum : (m k : ℕ) (r : Step) → scans L T (m + k) r ≡ scans L T k (scans L T m r)
+  scans-sum : (m k : ℕ) (r : Step) → scans L G (m + k) r ≡ scans L G k (scans L G m r)
   unfolding scans
   scans-sum zero k r = rw zero-add
-  scans-sum (suc m) k (next s) = rw suc-add (scans-sum m k (scan L T s))
-  scans-sum (suc m) k (stop e) = rw (suc-add, scans-stop L T k e)
+  scans-sum (suc m) k (next s) = rw suc-add (scans-sum m k (scan L G s))
+  scans-sum (suc m) k (stop e) = rw (suc-add, scans-stop L G k e)
 
   -- a scan after n others
-  scans-next : (n : ℕ) (r : Step) (s : State) → scans L T n r ≡ next s → scans L T (suc n) r ≡ scan L T s
+  pub scans-next : (n : ℕ) (r : Step) (s : State) → scans L G n r ≡ next s → scans L G (suc n) r ≡ scan L G s
   unfolding scans
   scans-next n r s p = rw (← add-one, scans-sum n 1 r, p)
 
   -- a run that has ended has ended with any more scans
-  scans-ended : (m n : ℕ) (r : Step) (e : End) → m ≤ n → scans L T m r ≡ stop e → scans L T n r ≡ stop e
-  scans-ended m n r e h p = let q : n ≡ m + (n - m) = omega arith in rw (q, scans-sum m (n - m) r, p) (scans-stop L T (n - m) e)
+  pub scans-ended : (m n : ℕ) (r : Step) (e : End) → m ≤ n → scans L G m r ≡ stop e → scans L G n r ≡ stop e
+  scans-ended m n r e h p = let q : n ≡ m + (n - m) = omega arith in rw (q, scans-sum m (n - m) r, p) (scans-stop L G (n - m) e)
 
   -- a scan counts itself
-  scan-counts : (s : State) → standingOf (scan L T s) .scans ≡ s .standing .scans + 1
-  scan-counts s = scan-alike L T s .1 .scans
+  scan-counts : (s : State) → standingOf (scan L G s) .scans ≡ s .standing .scans + 1
+  scan-counts s = scan-alike L G s .1 .scans
 
   -- a run that begins within its limits stays there
-  scans-fit : (n : ℕ) (r : Step) → Fits L (standingOf r) → Fits L (standingOf (scans L T n r))
+  scans-fit : (n : ℕ) (r : Step) → Fits L (standingOf r) → Fits L (standingOf (scans L G n r))
   unfolding scans
   scans-fit zero r f = f
-  scans-fit (suc n) (next s) f = scans-fit n (scan L T s) (scan-alike L T s .1 .fits (record { most = f .most; output = f .output }))
+  scans-fit (suc n) (next s) f = scans-fit n (scan L G s) (scan-alike L G s .1 .fits (record { most = f .most; output = f .output }))
   scans-fit (suc n) (stop e) f = f
 
   -- the standing of a run grows
-  scans-grow : (n : ℕ) (r : Step) → Grows (standingOf r) (standingOf (scans L T n r))
+  scans-grow : (n : ℕ) (r : Step) → Grows (standingOf r) (standingOf (scans L G n r))
   unfolding scans
   scans-grow zero r = grows-refl (standingOf r)
   scans-grow (suc n) (next s) =
-      let g = scan-alike L T s .1 .grows in
-      grows-trans (record { more = g .more; output = g .output; most = g .most }) (scans-grow n (scan L T s))
+      let g = scan-alike L G s .1 .grows in
+      grows-trans (record { more = g .more; output = g .output; most = g .most }) (scans-grow n (scan L G s))
   scans-grow (suc n) (stop e) = grows-refl (standingOf (stop e))
 
   -- from any of its points to any later one
-  scans-grow-to : (m n : ℕ) (r : Step) → m ≤ n → Grows (standingOf (scans L T m r)) (standingOf (scans L T n r))
-  scans-grow-to m n r h = let q : n ≡ m + (n - m) = omega arith in rw (q, scans-sum m (n - m) r) (scans-grow (n - m) (scans L T m r))
+  scans-grow-to : (m n : ℕ) (r : Step) → m ≤ n → Grows (standingOf (scans L G m r)) (standingOf (scans L G n r))
+  scans-grow-to m n r h = let q : n ≡ m + (n - m) = omega arith in rw (q, scans-sum m (n - m) r) (scans-grow (n - m) (scans L G m r))
 
   -- the output of a run grows only at its end
-  pub output-grows : (k : ℕ) (s : State) → (more : Bytes) × (standingOf (scans L T k (next s)) .output ≡ s .standing .output ++ more)
+  pub output-grows : (k : ℕ) (s : State) → (more : Bytes) × (standingOf (scans L G k (next s)) .output ≡ s .standing .output ++ more)
   output-grows k s = let g = scans-grow k (next s) in (g .more, g .output)
 
   -- a run that has not ended has made every scan
-  pub counted : (n : ℕ) (s s′ : State) → scans L T n (next s) ≡ next s′ → s′ .standing .scans ≡ s .standing .scans + n
+  pub counted : (n : ℕ) (s s′ : State) → scans L G n (next s) ≡ next s′ → s′ .standing .scans ≡ s .standing .scans + n
   unfolding scans
   counted zero s s′ p = let q : s ≡ s′ = cc in rw q (omega arith)
-  counted (suc n) s s′ p = go (scan L T s) (scan-counts s) p (λ s₁. counted n s₁ s′)
+  counted (suc n) s s′ p = go (scan L G s) (scan-counts s) p (λ s₁. counted n s₁ s′)
     where
-      go : (r : Step) → standingOf r .scans ≡ s .standing .scans + 1 → scans L T n r ≡ next s′
-          → ((s₁ : State) → scans L T n (next s₁) ≡ next s′ → s′ .standing .scans ≡ s₁ .standing .scans + n)
+      go : (r : Step) → standingOf r .scans ≡ s .standing .scans + 1 → scans L G n r ≡ next s′
+          → ((s₁ : State) → scans L G n (next s₁) ≡ next s′ → s′ .standing .scans ≡ s₁ .standing .scans + n)
           → s′ .standing .scans ≡ s .standing .scans + suc n
       go (next s₁) c p ih = omega (arith, ih s₁ p)
-      go (stop e) c p ih = not-end (sym p ∙ scans-stop L T n e)
+      go (stop e) c p ih = not-end (sym p ∙ scans-stop L G n e)
 
   -- the end e of a run of at most n scans from s: it is reached with exactly as many as it reports
   pub record Counted (n : ℕ) (s : State) (e : End) : Type 0 where
     pub above : s .standing .scans < e .scans
     pub below : e .scans ≤ s .standing .scans + n
-    pub exactly : scans L T (e .scans - s .standing .scans) (next s) ≡ stop e
+    pub exactly : scans L G (e .scans - s .standing .scans) (next s) ≡ stop e
 
   -- a run that has ended
-  pub counted-end : (n : ℕ) (s : State) (e : End) → scans L T n (next s) ≡ stop e → Counted n s e
+  pub counted-end : (n : ℕ) (s : State) (e : End) → scans L G n (next s) ≡ stop e → Counted n s e
   unfolding scans
   counted-end zero s e p = not-end p
-  counted-end (suc n) s e p = go (scan L T s) refl (scan-counts s) p (λ s₁. counted-end n s₁ e)
+  counted-end (suc n) s e p = go (scan L G s) refl (scan-counts s) p (λ s₁. counted-end n s₁ e)
     where
-      go : (r : Step) → scan L T s ≡ r → standingOf r .scans ≡ s .standing .scans + 1 → scans L T n r ≡ stop e
-          → ((s₁ : State) → scans L T n (next s₁) ≡ stop e → Counted n s₁ e) → Counted (suc n) s e
+      go : (r : Step) → scan L G s ≡ r → standingOf r .scans ≡ s .standing .scans + 1 → scans L G n r ≡ stop e
+          → ((s₁ : State) → scans L G n (next s₁) ≡ stop e → Counted n s₁ e) → Counted (suc n) s e
       go (next s₁) q c p ih =
           let i = ih s₁ p in
           let k : e .scans - s .standing .scans ≡ suc (e .scans - s₁ .standing .scans) = omega (arith, i .above) in
           record {
             above = omega (arith, i .above);
             below = omega (arith, i .below);
-            exactly = rw k (ap (scans L T (e .scans - s₁ .standing .scans)) q ∙ i .exactly);
+            exactly = rw k (ap (scans L G (e .scans - s₁ .standing .scans)) q ∙ i .exactly);
           }
       go (stop e₁) q c p ih =
-          let d : e₁ ≡ e = cc (scans-stop L T n e₁) in
+          let d : e₁ ≡ e = cc (scans-stop L G n e₁) in
           let k : e .scans ≡ s .standing .scans + 1 = rw (← d) c in
           let one : e .scans - s .standing .scans ≡ 1 = omega arith in
           record { above = omega arith; below = omega arith; exactly = rw (one, ← d) q }
@@ -478,11 +479,11 @@ module _ (L : Limits) (T : Table) where
 -- Limited runs -------------------------------------------------------------------------------------------------------
 
 -- what the unlimited machine ends with is of the text
-scans-ofText : (T : Table) (n : ℕ) (r : Step) → OfText r → OfText (scans noLimits T n r)
+scans-ofText : (G : Language) (n : ℕ) (r : Step) → OfText r → OfText (scans noLimits G n r)
 unfolding scans
-scans-ofText T zero r h = h
-scans-ofText T (suc n) (next s) h = scans-ofText T n (scan noLimits T s) (scan-alike noLimits T s .1 .ofText)
-scans-ofText T (suc n) (stop e) h = h
+scans-ofText G zero r h = h
+scans-ofText G (suc n) (next s) h = scans-ofText G n (scan noLimits G s) (scan-alike noLimits G s .1 .ofText)
+scans-ofText G (suc n) (stop e) h = h
 
 -- e needs no more than c cells, o bytes of output and n scans
 pub record Needs (c o n : ℕ) (e : End) : Type 0 where
@@ -490,11 +491,11 @@ pub record Needs (c o n : ℕ) (e : End) : Type 0 where
   pub output : length (e .output) ≤ o
   pub scans : e .scans ≤ n
 
-module _ (T : Table) (t : Bytes) (ds : List Definition) where
+module _ (G : Language) (t : Bytes) (ds : List Definition) where
   -- the unlimited run has made n scans and not ended, and e reports its standing
   pub record Lasted (n : ℕ) (e : End) : Type 0 where
     pub state : State
-    pub reached : after noLimits T t ds n ≡ next state
+    pub reached : after noLimits G t ds n ≡ next state
     pub standing : state .standing ≡ standingOf (stop e)
     pub counts : e .scans ≡ n
 
@@ -502,16 +503,16 @@ module _ (T : Table) (t : Bytes) (ds : List Definition) where
   pub record Refused (passes : Standing → Type 0) (n : ℕ) (e : End) : Type 0 where
     pub made : ℕ
     pub state : State
-    pub reached : after noLimits T t ds made ≡ next state
+    pub reached : after noLimits G t ds made ≡ next state
     pub fewer : made < n
     pub counts : made + 1 ≡ e .scans
     pub output : state .standing .output ≡ e .output
     pub definitions : state .standing .definitions ≡ e .definitions
-    pub passed : passes (standingOf (scan noLimits T state))
+    pub passed : passes (standingOf (scan noLimits G state))
 
   -- the same refusal, within more scans, or said of one limit
   refused-as : {P Q : Standing → Type 0} {n n′ : ℕ} {e : End} (x : Refused P n e)
-      → n ≤ n′ → Q (standingOf (scan noLimits T (x .state))) → Refused Q n′ e
+      → n ≤ n′ → Q (standingOf (scan noLimits G (x .state))) → Refused Q n′ e
   refused-as x h q = record {
     made = x .made;
     state = x .state;
@@ -526,23 +527,23 @@ module _ (T : Table) (t : Bytes) (ds : List Definition) where
   module _ (L : Limits) where
     -- where n scans with limits come to: to where those without come to, or to a refusal
     data Comes (n : ℕ) : Type 0 where
-      alike : after L T t ds n ≡ after noLimits T t ds n → Comes n
-      breaks : (e : End) → after L T t ds n ≡ stop e → Refused (Exceeds L (e .outcome)) n e → Comes n
+      alike : after L G t ds n ≡ after noLimits G t ds n → Comes n
+      breaks : (e : End) → after L G t ds n ≡ stop e → Refused (Exceeds L (e .outcome)) n e → Comes n
 
     -- where one more comes to, from the result r of n scans, with limits and without
-    comes-next : (n : ℕ) (r : Step) → after L T t ds n ≡ r → after noLimits T t ds n ≡ r → Comes (suc n)
-    comes-next n (stop e) p q = alike (scans-ended L T n (suc n) _ e (omega arith) p ∙ sym (scans-ended noLimits T n (suc n) _ e (omega arith) q))
-    comes-next n (next s) p q = go (scan-alike L T s .0) (scan-alike L T s .1 .how)
+    comes-next : (n : ℕ) (r : Step) → after L G t ds n ≡ r → after noLimits G t ds n ≡ r → Comes (suc n)
+    comes-next n (stop e) p q = alike (scans-ended L G n (suc n) _ e (omega arith) p ∙ sym (scans-ended noLimits G n (suc n) _ e (omega arith) q))
+    comes-next n (next s) p q = go (scan-alike L G s .0) (scan-alike L G s .1 .how)
       where
-        go : (k : ℕ) → How L (counting k s .standing) (scan L T s) (scan noLimits T s) → Comes (suc n)
-        go k (same e) = alike (scans-next L T n _ s p ∙ e ∙ sym (scans-next noLimits T n _ s q))
+        go : (k : ℕ) → How L (counting k s .standing) (scan L G s) (scan noLimits G s) → Comes (suc n)
+        go k (same e) = alike (scans-next L G n _ s p ∙ e ∙ sym (scans-next noLimits G n _ s q))
         go k (refuses x) =
-            breaks (x .end) (scans-next L T n _ s p ∙ x .stopped) (record {
+            breaks (x .end) (scans-next L G n _ s p ∙ x .stopped) (record {
               made = n;
               state = s;
               reached = q;
               fewer = omega arith;
-              counts = omega (arith, rw (x .stopped) at (scan-counts L T s), counted noLimits T n (start t ds) s q);
+              counts = omega (arith, rw (x .stopped) at (scan-counts L G s), counted noLimits G n (start t ds) s q);
               output = sym (x .output);
               definitions = sym (x .definitions);
               passed = x .exceeds;
@@ -555,12 +556,20 @@ module _ (T : Table) (t : Bytes) (ds : List Definition) where
     comes (suc n) = go (comes n)
       where
         go : Comes n → Comes (suc n)
-        go (alike p) = comes-next n (after noLimits T t ds n) p refl
-        go (breaks e p x) = breaks e (scans-ended L T n (suc n) _ e (omega arith) p) (refused-as x (omega arith) (x .passed))
+        go (alike p) = comes-next n (after noLimits G t ds n) p refl
+        go (breaks e p x) = breaks e (scans-ended L G n (suc n) _ e (omega arith) p) (refused-as x (omega arith) (x .passed))
+
+    -- a state of the run with limits is one of the run without
+    pub reached-alike : (n : ℕ) (s : State) → after L G t ds n ≡ next s → after noLimits G t ds n ≡ next s
+    reached-alike n s p = go (comes n)
+      where
+        go : Comes n → after noLimits G t ds n ≡ next s
+        go (alike q) = sym q ∙ p
+        go (breaks e q x) = not-end (sym p ∙ q)
 
   -- the unlimited machine finishes or meets a fault of the text: it has none of the outcomes 2 to 9
-  pub unlimited-ends : (m : ℕ) (e : End) → after noLimits T t ds m ≡ stop e → So (endOfText (e .outcome))
-  unlimited-ends m e p = rw p at (scans-ofText T m (next (start t ds)) tt)
+  pub unlimited-ends : (m : ℕ) (e : End) → after noLimits G t ds m ≡ stop e → So (endOfText (e .outcome))
+  unlimited-ends m e p = rw p at (scans-ofText G m (next (start t ds)) tt)
 
   module _ (c o n : ℕ) where
     -- what a limited run has met at its end e
@@ -571,16 +580,16 @@ module _ (T : Table) (t : Bytes) (ds : List Definition) where
       output : e .outcome ≡ Outcomes.noOutputLeft → Refused (λ w. o < length (w .output)) n e → Met e
 
     -- a limited run needs no more than is lent
-    pub within-lent : definitionsPrice ds ≤ c → Needs c o n (run (limitsOf c o) T n t ds)
+    pub within-lent : definitionsPrice ds ≤ c → Needs c o n (run (limitsOf c o) G n t ds)
     unfolding run
-    within-lent d = go (after (limitsOf c o) T t ds n) refl (scans-fit (limitsOf c o) T n (next (start t ds)) (record { most = d; output = omega arith }))
+    within-lent d = go (after (limitsOf c o) G t ds n) refl (scans-fit (limitsOf c o) G n (next (start t ds)) (record { most = d; output = omega arith }))
       where
-        go : (r : Step) → after (limitsOf c o) T t ds n ≡ r → Fits (limitsOf c o) (standingOf r) → Needs c o n (endOf r)
-        go (next s) p f = record { cells = f .most; output = f .output; scans = omega (arith, counted (limitsOf c o) T n (start t ds) s p) }
-        go (stop e) p f = record { cells = f .most; output = f .output; scans = omega (arith, counted-end (limitsOf c o) T n (start t ds) e p .below) }
+        go : (r : Step) → after (limitsOf c o) G t ds n ≡ r → Fits (limitsOf c o) (standingOf r) → Needs c o n (endOf r)
+        go (next s) p f = record { cells = f .most; output = f .output; scans = omega (arith, counted (limitsOf c o) G n (start t ds) s p) }
+        go (stop e) p f = record { cells = f .most; output = f .output; scans = omega (arith, counted-end (limitsOf c o) G n (start t ds) e p .below) }
 
     -- a limited run that finishes or meets a fault of the text is the unlimited one
-    pub ended-alike : So (endOfText (run (limitsOf c o) T n t ds .outcome)) → after noLimits T t ds n ≡ stop (run (limitsOf c o) T n t ds)
+    pub ended-alike : So (endOfText (run (limitsOf c o) G n t ds .outcome)) → after noLimits G t ds n ≡ stop (run (limitsOf c o) G n t ds)
     unfolding run
     ended-alike h = go (comes (limitsOf c o) n)
       where
@@ -588,69 +597,69 @@ module _ (T : Table) (t : Bytes) (ds : List Definition) where
         ended-at (next s) h = absurd h
         ended-at (stop e) h = refl
 
-        go : Comes (limitsOf c o) n → after noLimits T t ds n ≡ stop (endOf (after (limitsOf c o) T t ds n))
-        go (alike p) = sym p ∙ ended-at (after (limitsOf c o) T t ds n) h
+        go : Comes (limitsOf c o) n → after noLimits G t ds n ≡ stop (endOf (after (limitsOf c o) G t ds n))
+        go (alike p) = sym p ∙ ended-at (after (limitsOf c o) G t ds n) h
         go (breaks e p x) = absurd (exceeds-not-ofText (limitsOf c o) (x .passed) (rw p at h))
 
     -- an unlimited run that needs no more than is lent is the limited one
-    pub fitting-run : (m : ℕ) (e : End) → after noLimits T t ds m ≡ stop e → Needs c o n e → run (limitsOf c o) T n t ds ≡ e
+    pub fitting-run : (m : ℕ) (e : End) → after noLimits G t ds m ≡ stop e → Needs c o n e → run (limitsOf c o) G n t ds ≡ e
     unfolding run
     fitting-run m e p f = go (comes (limitsOf c o) n)
       where
-        whole : after noLimits T t ds n ≡ stop e
-        whole = scans-ended noLimits T (e .scans - 0) n _ e (omega (arith, f .scans)) (counted-end noLimits T m (start t ds) e p .exactly)
+        whole : after noLimits G t ds n ≡ stop e
+        whole = scans-ended noLimits G (e .scans - 0) n _ e (omega (arith, f .scans)) (counted-end noLimits G m (start t ds) e p .exactly)
 
-        go : Comes (limitsOf c o) n → endOf (after (limitsOf c o) T t ds n) ≡ e
+        go : Comes (limitsOf c o) n → endOf (after (limitsOf c o) G t ds n) ≡ e
         go (alike q) = rw (q, whole)
         go (breaks e₁ q x) =
             absurd (fits-not-exceeds (limitsOf c o) (record { most = f .cells; output = f .output }) (exceeds-up (limitsOf c o) grown (x .passed)))
           where
-            grown : Grows (standingOf (scan noLimits T (x .state))) (standingOf (stop e))
+            grown : Grows (standingOf (scan noLimits G (x .state))) (standingOf (stop e))
             grown =
-                rw (scans-next noLimits T (x .made) (next (start t ds)) (x .state) (x .reached), whole)
-                at (scans-grow-to noLimits T (suc (x .made)) n (next (start t ds)) (x .fewer))
+                rw (scans-next noLimits G (x .made) (next (start t ds)) (x .state) (x .reached), whole)
+                at (scans-grow-to noLimits G (suc (x .made)) n (next (start t ds)) (x .fewer))
 
     -- a limited run ends as the unlimited one does, or has really met the limit that it reports
-    pub otherwise : Met (run (limitsOf c o) T n t ds)
+    pub otherwise : Met (run (limitsOf c o) G n t ds)
     unfolding run
     otherwise = go (comes (limitsOf c o) n)
       where
-        reached : (r : Step) → after noLimits T t ds n ≡ r → Met (endOf r)
+        reached : (r : Step) → after noLimits G t ds n ≡ r → Met (endOf r)
         reached (next s) q =
-            allowance refl (record { state = s; reached = q; standing = refl; counts = omega (arith, counted noLimits T n (start t ds) s q) })
+            allowance refl (record { state = s; reached = q; standing = refl; counts = omega (arith, counted noLimits G n (start t ds) s q) })
         reached (stop e) q = ended (unlimited-ends n e q)
 
         broken : (e : End) (x : Refused (Exceeds (limitsOf c o) (e .outcome)) n e)
-            → Exceeds (limitsOf c o) (e .outcome) (standingOf (scan noLimits T (x .state))) → Met e
+            → Exceeds (limitsOf c o) (e .outcome) (standingOf (scan noLimits G (x .state))) → Met e
         broken e x (overCells k h) = cells k (refused-as x (omega arith) h)
         broken e x (overOutput k h) = output k (refused-as x (omega arith) h)
 
-        go : Comes (limitsOf c o) n → Met (endOf (after (limitsOf c o) T t ds n))
-        go (alike p) = rw p (reached (after noLimits T t ds n) refl)
+        go : Comes (limitsOf c o) n → Met (endOf (after (limitsOf c o) G t ds n))
+        go (alike p) = rw p (reached (after noLimits G t ds n) refl)
         go (breaks e p x) = rw p (broken e x (x .passed))
 
     -- the output of a limited run is a beginning of that of the unlimited one at every later point
-    pub prefix : (k : ℕ) → run (limitsOf c o) T n t ds .scans ≤ k
-        → (more : Bytes) × (standingOf (after noLimits T t ds k) .output ≡ run (limitsOf c o) T n t ds .output ++ more)
+    pub prefix : (k : ℕ) → run (limitsOf c o) G n t ds .scans ≤ k
+        → (more : Bytes) × (standingOf (after noLimits G t ds k) .output ≡ run (limitsOf c o) G n t ds .output ++ more)
     prefix k h = go otherwise
       where
         e : End
-        e = run (limitsOf c o) T n t ds
+        e = run (limitsOf c o) G n t ds
 
-        from : (m : ℕ) (r : Step) → m ≤ k → after noLimits T t ds m ≡ r → standingOf r .output ≡ e .output
-            → (more : Bytes) × (standingOf (after noLimits T t ds k) .output ≡ e .output ++ more)
-        from m r l p q = let g = scans-grow-to noLimits T m k (next (start t ds)) l in (g .more, g .output ∙ rw (p, q))
+        from : (m : ℕ) (r : Step) → m ≤ k → after noLimits G t ds m ≡ r → standingOf r .output ≡ e .output
+            → (more : Bytes) × (standingOf (after noLimits G t ds k) .output ≡ e .output ++ more)
+        from m r l p q = let g = scans-grow-to noLimits G m k (next (start t ds)) l in (g .more, g .output ∙ rw (p, q))
 
-        go : Met e → (more : Bytes) × (standingOf (after noLimits T t ds k) .output ≡ e .output ++ more)
-        go (ended x) = from (e .scans - 0) (stop e) (omega arith) (counted-end noLimits T n (start t ds) e (ended-alike x) .exactly) refl
+        go : Met e → (more : Bytes) × (standingOf (after noLimits G t ds k) .output ≡ e .output ++ more)
+        go (ended x) = from (e .scans - 0) (stop e) (omega arith) (counted-end noLimits G n (start t ds) e (ended-alike x) .exactly) refl
         go (allowance p x) = from n (next (x .state)) (omega (arith, x .counts)) (x .reached) (ap (λ (w : Standing). w .output) (x .standing))
         go (cells p x) = from (x .made) (next (x .state)) (omega (arith, x .counts)) (x .reached) (x .output)
         go (output p x) = from (x .made) (next (x .state)) (omega (arith, x .counts)) (x .reached) (x .output)
 
     -- and at its end
-    pub prefix-end : (m : ℕ) (e : End) → after noLimits T t ds m ≡ stop e
-        → (more : Bytes) × (e .output ≡ run (limitsOf c o) T n t ds .output ++ more)
-    prefix-end m e p = rw (scans-ended noLimits T m k (next (start t ds)) e (omega arith) p) at (prefix k (omega arith))
+    pub prefix-end : (m : ℕ) (e : End) → after noLimits G t ds m ≡ stop e
+        → (more : Bytes) × (e .output ≡ run (limitsOf c o) G n t ds .output ++ more)
+    prefix-end m e p = rw (scans-ended noLimits G m k (next (start t ds)) e (omega arith) p) at (prefix k (omega arith))
       where
         k : ℕ
-        k = m + run (limitsOf c o) T n t ds .scans
+        k = m + run (limitsOf c o) G n t ds .scans

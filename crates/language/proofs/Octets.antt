@@ -13,7 +13,7 @@ use lib.Dec.{ltb, eqb}
 use Rattle.decimal.specs.Arithmetic.{Result, number, refused, calculated}
 use Rattle.decimal.proofs.Bytes.{Each, OfDecimal}
 use Rattle.decimal.proofs.Laws.{shortest-bytes}
-use Rattle.language.specs.Signs.{Bytes, Table, Meaning, copied, leftOut, opens, separates, applies, fetches, unquotes, meaning, parameterNumber}
+use Rattle.language.specs.Signs.{Bytes, Language, Meaning, copied, leftOut, opens, separates, applies, fetches, unquotes, meaning}
 use Rattle.language.specs.declared.built_ins.BuiltIn.{BuiltIn}
 use Rattle.language.specs.declared.built_ins.BuiltIn.the-variants.{Def, Val, Update, Arithmetic}
 use Rattle.language.specs.Definitions.{Content, macro, builtIn, Definition, Found, found, missing, same, newest, valued, altered, oldest, among, counts, live}
@@ -241,18 +241,18 @@ module _ (L : Limits) where
       go false = ending _ g
 
   -- `~`
-  fetch-octets : {Bs : List Body} {b : ℕ} (s : State) → All BodyOctets Bs → b < 256 → HoldsOctets s → Kept (S.fetch L Bs b s)
-  fetch-octets {b = b} s empty p g = go (s .calls)
+  fetch-octets : (G : Language) {Bs : List Body} {b : ℕ} (s : State) → All BodyOctets Bs → b < 256 → HoldsOctets s → Kept (S.fetch L G Bs b s)
+  fetch-octets G {b = b} s empty p g = go (s .calls)
     where
       go : (cs : List Call) → Kept (S.fetchInText L cs b s)
       go [] = put-octets s (g .calls) (with p empty) g
       go (c ∷ cs) = ending _ g
-  fetch-octets s (with {x = B} {xs = Bs} q R) p g = go (B .rest) (q .rest)
+  fetch-octets G s (with {x = B} {xs = Bs} q R) p g = go (B .rest) (q .rest)
     where
-      go : (r : Bytes) → Octets r → Kept (S.fetchInBody L r B Bs s)
+      go : (r : Bytes) → Octets r → Kept (S.fetchInBody L G r B Bs s)
       go [] empty = ending _ g
       go (x ∷ r) (with h rest) =
-          number-octets (parameterNumber x) _ (q .list)
+          number-octets (G .parameterNumber x) _ (q .list)
           (holds (g .text) (g .calls) (with (record { list = q .list; rest = rest }) R) (g .definitions) (g .output))
 
   -- an unquoted `>`
@@ -262,14 +262,14 @@ module _ (L : Limits) where
   unquote-octets (B ∷ Bs) cs s p g = put-octets s (g .calls) (with p empty) g
 
   -- a byte that was taken from its source
-  byte-octets : (m : Meaning) {b : ℕ} (s : State) → b < 256 → HoldsOctets s → Kept (S.byte L m b s)
-  byte-octets (copied q) s p g = put-octets _ (g .calls) (with p empty) (recounted g)
-  byte-octets (leftOut q) s p g = goesOn (recounted g)
-  byte-octets opens s p g = open-octets s g
-  byte-octets separates s p g = separate-octets s (g .calls) p g
-  byte-octets applies s p g = apply-octets (S.ownCall s) s p g
-  byte-octets fetches s p g = fetch-octets s (g .bodies) p g
-  byte-octets unquotes s p g = unquote-octets (s .bodies) (s .calls) s p g
+  byte-octets : (G : Language) (m : Meaning) {b : ℕ} (s : State) → b < 256 → HoldsOctets s → Kept (S.byte L G m b s)
+  byte-octets G (copied q) s p g = put-octets _ (g .calls) (with p empty) (recounted g)
+  byte-octets G (leftOut q) s p g = goesOn (recounted g)
+  byte-octets G opens s p g = open-octets s g
+  byte-octets G separates s p g = separate-octets s (g .calls) p g
+  byte-octets G applies s p g = apply-octets (S.ownCall s) s p g
+  byte-octets G fetches s p g = fetch-octets G s (g .bodies) p g
+  byte-octets G unquotes s p g = unquote-octets (s .bodies) (s .calls) s p g
 
   -- the end of the text
   text-end-octets : (q : ℕ) (cs : List Call) (s : State) → HoldsOctets s → Kept (S.textEnd L q cs s)
@@ -286,24 +286,24 @@ module _ (L : Limits) where
       (all-append (all-take (length ds - B .applied) (g .definitions)) (oldest-octets (B .opened) (g .definitions))) (g .output))
 
   -- by where the byte comes from
-  from-octets : (T : Table) {Bs : List Body} {t : Bytes} (s : State) → All BodyOctets Bs → Octets t → HoldsOctets s → Kept (S.from L T Bs t s)
-  from-octets T s empty empty g = text-end-octets (s .quotes) (s .calls) _ (recounted g)
-  from-octets T s empty (with {x = b} p t) g =
-      byte-octets (meaning T (s .quotes) b) _ p (holds t (g .calls) (g .bodies) (g .definitions) (g .output))
-  from-octets T s (with {x = B} {xs = Bs} q R) t g = go (B .rest) (q .rest)
+  from-octets : (G : Language) {Bs : List Body} {t : Bytes} (s : State) → All BodyOctets Bs → Octets t → HoldsOctets s → Kept (S.from L G Bs t s)
+  from-octets G s empty empty g = text-end-octets (s .quotes) (s .calls) _ (recounted g)
+  from-octets G s empty (with {x = b} p t) g =
+      byte-octets G (meaning (G .table) (s .quotes) b) _ p (holds t (g .calls) (g .bodies) (g .definitions) (g .output))
+  from-octets G s (with {x = B} {xs = Bs} q R) t g = go (B .rest) (q .rest)
     where
-      go : (r : Bytes) → Octets r → Kept (S.fromBody L T r B Bs s)
+      go : (r : Bytes) → Octets r → Kept (S.fromBody L G r B Bs s)
       go [] empty = body-end-octets (S.ownCall s) B _ R (recounted g)
       go (b ∷ r) (with p rest) =
-          byte-octets (meaning T (s .quotes) b) _ p
+          byte-octets G (meaning (G .table) (s .quotes) b) _ p
           (holds (g .text) (g .calls) (with (record { list = q .list; rest = rest }) R) (g .definitions) (g .output))
 
 -- The theorems -------------------------------------------------------------------------------------------------------
 
 -- A scan keeps strings of bytes, in the next state (`onNext`) and in an end (`onStop`).
-pub octets-kept : (L : Limits) (T : Table) (s : State) → HoldsOctets s → Leads HoldsOctets EndsOctets (S.scan L T s)
+pub octets-kept : (L : Limits) (G : Language) (s : State) → HoldsOctets s → Leads HoldsOctets EndsOctets (S.scan L G s)
 unfolding S.scan
-octets-kept L T s g = from-octets L T s (g .bodies) (g .text) g
+octets-kept L G s g = from-octets L G s (g .bodies) (g .text) g
 
 -- The fresh standing has them where its text and its definitions are of bytes,
 pub octets-start : {t : Bytes} {ds : List Definition} → Octets t → All DefinitionOctets ds → HoldsOctets (S.start t ds)
@@ -334,15 +334,15 @@ pub built-ins-octets : All DefinitionOctets builtIns
 unfolding live smallNames
 built-ins-octets = uncounted-octets builtIns refl refl
 
-module _ (L : Limits) (T : Table) {t : Bytes} {ds : List Definition} (p : Octets t) (D : All DefinitionOctets ds) (n : ℕ) where
+module _ (L : Limits) (G : Language) {t : Bytes} {ds : List Definition} (p : Octets t) (D : All DefinitionOctets ds) (n : ℕ) where
   -- what a run from there comes to
-  kept : Kept (S.scans L T n (next (S.start t ds)))
-  kept = scansLead L T (octets-kept L T) n (next (S.start t ds)) (goesOn (octets-start p D))
+  kept : Kept (S.scans L G n (next (S.start t ds)))
+  kept = scansLead L G (octets-kept L G) n (next (S.start t ds)) (goesOn (octets-start p D))
 
   -- so every state of a run from there has them,
-  pub octets-always : {s : State} → S.scans L T n (next (S.start t ds)) ≡ next s → HoldsOctets s
+  pub octets-always : {s : State} → S.scans L G n (next (S.start t ds)) ≡ next s → HoldsOctets s
   octets-always e = onNext kept e
 
   -- and its end.
-  pub octets-at-end : {e : End} → S.scans L T n (next (S.start t ds)) ≡ stop e → EndsOctets e
+  pub octets-at-end : {e : End} → S.scans L G n (next (S.start t ds)) ≡ stop e → EndsOctets e
   octets-at-end q = onStop kept q

@@ -7,7 +7,7 @@ use mathlib.Core.Path.{_≡_, refl, sym, _∙_, ap, subst}
 use mathlib.Core.Bool.{Bool, true, false, cond, _&&_}
 use mathlib.Core.List.{List, [], _∷_, _++_}
 use mathlib.Core.Option.{Option, none, some, bind}
-use lib.ListN.{length, drop, getD, replicate, getD-replicate, List·getD-append}
+use lib.ListN.{length, drop, getD, replicate, length-replicate, getD-replicate, List·getD-append}
 use lib.Seq.{getD-drop}
 use lib.Dec.{leb, ltb, eqb}
 use lib.IntN.{ℤ, pos, negsuc}
@@ -16,7 +16,7 @@ use Rattle.decimal.specs.declared.operations.Operation.{Operation}
 use Rattle.decimal.specs.Operand.{operand, inRange}
 use Rattle.decimal.specs.Arithmetic.{Result, divides, isZero, exact, ofOperands}
 use Rattle.decimal.specs.Shortest.{digitsOf, shortest}
-use Rattle.language.specs.Signs.{Bytes, Table, Sign, plain, dollar, comma, semicolon, tilde, quote, unquote, signOfKind, signOf, Meaning, copied, leftOut, opens, separates, applies, fetches, unquotes, outside, inside, meaning, parameterNumber, standard}
+use Rattle.language.specs.Signs.{Bytes, Table, Sign, plain, dollar, comma, semicolon, tilde, quote, unquote, signOfKind, signOf, Meaning, copied, leftOut, opens, separates, applies, fetches, unquotes, outside, inside, meaning, parameterDigit, parameterNumber, language, standard}
 use Rattle.language.specs.Outcomes
 use Rattle.language.specs.Outcomes.{finishes}
 use Rattle.language.specs.declared.built_ins.BuiltIn.{BuiltIn}
@@ -27,7 +27,7 @@ use Rattle.language.specs.Charge.{openPrice, endPrice}
 use Rattle.language.specs.Ends.{End}
 use Rattle.language.specs.Scanning.{Call, Body, Standing, State, Step, next, stop, ends, noting, withRest, Limits, listOf, reading, scan, scans, start, endOf, run}
 use Rattle.language.specs.Scanning as S
-use Rattle.language.specs.Matched.{depthBy, depthAfter, Matched, All, empty, with, Innermost, CallMatches, BodyMatches, ContentMatches, ValueMatches, depthWritten, QuotesMatch, DigitsPlain}
+use Rattle.language.specs.Matched.{depthBy, depthAfter, Matched, All, empty, with, Innermost, CallMatches, BodyMatches, ContentMatches, ValueMatches, depthWritten, QuotesMatch, DigitsAndLettersPlain}
 use Rattle.language.proofs.Lists.{either, all-append, all-take, all-drop, all-getD}
 
 -- Every element ------------------------------------------------------------------------------------------------------
@@ -177,10 +177,25 @@ module _ (T : Table) where
   update-matches ks w m (found k (macro x)) = either DeedMatches (among k ks) refl (either DeedMatches (ltb (x .room) (length w)) refl m)
   update-matches ks w m (found k (builtIn b)) = refl
 
-  module _ (digits : DigitsPlain T) where
+  module _ (plainly : DigitsAndLettersPlain T) where
+    -- a byte that stands for a parameter is no sign
+    number-plain : (b k : ℕ) → parameterNumber b ≡ some k → signOf T b ≡ plain
+    number-plain b k = byLetter (leb 97 b) refl (leb b 122) refl
+      where
+        byDigit : (x : Bool) → leb 48 b ≡ x → (y : Bool) → leb b 57 ≡ y → cond (x && y) (some (b - 48)) none ≡ some k → signOf T b ≡ plain
+        byDigit true p true p′ e = plainly .digit b (leb-true 48 b p) (leb-true b 57 p′)
+        byDigit true p false p′ e = absurd (none-some e)
+        byDigit false p y p′ e = absurd (none-some e)
+
+        byLetter : (x : Bool) → leb 97 b ≡ x → (y : Bool) → leb b 122 ≡ y
+            → cond (x && y) (some (b - 97 + 10)) (parameterDigit b) ≡ some k → signOf T b ≡ plain
+        byLetter true p true p′ e = plainly .letter b (leb-true 97 b p) (leb-true b 122 p′)
+        byLetter true p false p′ e = byDigit (leb 48 b) refl (leb b 57) refl e
+        byLetter false p y p′ e = byDigit (leb 48 b) refl (leb b 57) refl e
+
     -- one digit
     digit-matched : (d : ℕ) → d < 10 → Matched T ((48 + d) ∷ [])
-    digit-matched d h = depth-plain T 0 (48 + d) [] (digits .digit (48 + d) (omega arith) (omega arith)) ∙ matched-empty T
+    digit-matched d h = depth-plain T 0 (48 + d) [] (plainly .digit (48 + d) (omega arith) (omega arith)) ∙ matched-empty T
 
     -- digits
     digits-matched : (more n : ℕ) → Matched T (digitsOf more n)
@@ -197,7 +212,7 @@ module _ (T : Table) where
     -- a result of arithmetic
     shortest-matched : (z : ℤ) → Matched T (shortest z)
     shortest-matched (pos n) = digits-matched n n
-    shortest-matched (negsuc n) = depth-plain T 0 45 (digitsOf (suc n) (suc n)) (digits .minus) ∙ digits-matched (suc n) (suc n)
+    shortest-matched (negsuc n) = depth-plain T 0 45 (digitsOf (suc n) (suc n)) (plainly .minus) ∙ digits-matched (suc n) (suc n)
 
     -- arithmetic gives a decimal or one of its own outcomes
     result-matches : (op : Operation) (a b : Option ℤ) → DeedMatches (resultOf (ofOperands op a b))
@@ -298,7 +313,7 @@ module _ (T : Table) where
   refused : (n : ℕ) (s : State) → finishes n ≡ false → Kept T (s .standing .output) (ends n s)
   refused n s e = record { unchanged = refl; matched = λ f. absurd (false-true (sym e ∙ f)) }
 
-module _ (L : Limits) (T : Table) (digits : DigitsPlain T) where
+module _ (L : Limits) (T : Table) (plainly : DigitsAndLettersPlain T) where
   -- within the cells lent, or refused
   charged : (n : ℕ) (s : State) (go : State → Step) → ((m : ℕ) → Kept T (s .standing .output) (go (noting m s)))
       → Kept T (s .standing .output) (S.charging L n s go)
@@ -382,7 +397,7 @@ module _ (L : Limits) (T : Table) (digits : DigitsPlain T) where
         charged endPrice (stateOf t 0 (c ∷ cs) Bs w)
         (λ s. S.perform L (deed (reading (s .bodies)) (listOf c) (s .standing .definitions)) c cs s)
         (λ m. perform-keeps t Bs (noting m (stateOf t 0 (c ∷ cs) Bs w) .standing) (deed (reading Bs) (listOf c) (w .definitions)) c cs
-        (deed-matches T digits (reading Bs) (listOf c) (w .definitions) (list-matches T c (g .calls .0)) (g .values))
+        (deed-matches T plainly (reading Bs) (listOf c) (w .definitions) (list-matches T c (g .calls .0)) (g .values))
         (matches T (g .calls) (g .output) (g .bodies) (g .values)))
 
     -- `;`
@@ -398,30 +413,28 @@ module _ (L : Limits) (T : Table) (digits : DigitsPlain T) where
     supplied-keeps true p cs Bs m g = put-outside t Bs w p cs m g
     supplied-keeps false p cs Bs m g = refused T Outcomes.notSupplied (stateOf t 0 cs Bs w) refl
 
-    -- the byte behind `~`: a digit is no sign, so the rest of the body stays matched
+    -- the byte behind `~`: where it stands for a parameter it is no sign, so the rest of the body stays matched
     number-keeps : (b : ℕ) (r : Bytes) (cs : List Call) (B : Body) (Bs : List Body) → Matched T (b ∷ r)
         → QuotesMatch T (stateOf t 0 cs (B ∷ Bs) w)
         → Kept T (w .output) (S.fetchNumber L (parameterNumber b) (B .list) (stateOf t 0 cs (withRest r B ∷ Bs) w))
-    number-keeps b r cs B Bs e g = go (leb 48 b) refl (leb b 57) refl
+    number-keeps b r cs B Bs e g = go (parameterNumber b) refl
       where
-        go : (x : Bool) → leb 48 b ≡ x → (y : Bool) → leb b 57 ≡ y
-            → Kept T (w .output) (S.fetchNumber L (cond (x && y) (some (b - 48)) none) (B .list) (stateOf t 0 cs (withRest r B ∷ Bs) w))
-        go false p y p′ = refused T Outcomes.parameterNotDigit (stateOf t 0 cs (withRest r B ∷ Bs) w) refl
-        go true p false p′ = refused T Outcomes.parameterNotDigit (stateOf t 0 cs (withRest r B ∷ Bs) w) refl
-        go true p true p′ =
-            let same-depth = depth-plain T 0 b r (digits .digit b (leb-true 48 b p) (leb-true b 57 p′)) in
-            supplied-keeps (ltb (b - 48) (length (B .list))) (parameter (b - 48) (B .list)) cs (withRest r B ∷ Bs)
-            (all-getD [] (matched-empty T) (g .bodies .0 .list) (b - 48))
+        go : (j : Option ℕ) → parameterNumber b ≡ j → Kept T (w .output) (S.fetchNumber L j (B .list) (stateOf t 0 cs (withRest r B ∷ Bs) w))
+        go none p = refused T Outcomes.fetchesNothing (stateOf t 0 cs (withRest r B ∷ Bs) w) refl
+        go (some k) p =
+            let same-depth = depth-plain T 0 b r (number-plain T plainly b k p) in
+            supplied-keeps (ltb k (length (B .list))) (parameter k (B .list)) cs (withRest r B ∷ Bs)
+            (all-getD [] (matched-empty T) (g .bodies .0 .list) k)
             (matches T (g .calls) (g .output) (record { list = g .bodies .0 .list; rest = sym same-depth ∙ e }, g .bodies .1) (g .values))
 
     -- `~`
-    fetch-keeps : (b : ℕ) (cs : List Call) (Bs : List Body) → Matched T (b ∷ []) → Keeps T (S.fetch L Bs b) (stateOf t 0 cs Bs w)
+    fetch-keeps : (b : ℕ) (cs : List Call) (Bs : List Body) → Matched T (b ∷ []) → Keeps T (S.fetch L (language T) Bs b) (stateOf t 0 cs Bs w)
     fetch-keeps b [] [] m g = put-outside t [] w (b ∷ []) [] m g
     fetch-keeps b (c ∷ cs) [] m g = refused T Outcomes.parameterInText (stateOf t 0 (c ∷ cs) [] w) refl
     fetch-keeps b cs (B ∷ Bs) m g = go (B .rest) (g .bodies .0 .rest)
       where
-        go : (r : Bytes) → Matched T r → Kept T (w .output) (S.fetchInBody L r B Bs (stateOf t 0 cs (B ∷ Bs) w))
-        go [] e = refused T Outcomes.parameterNotDigit (stateOf t 0 cs (B ∷ Bs) w) refl
+        go : (r : Bytes) → Matched T r → Kept T (w .output) (S.fetchInBody L (language T) r B Bs (stateOf t 0 cs (B ∷ Bs) w))
+        go [] e = refused T Outcomes.fetchesNothing (stateOf t 0 cs (B ∷ Bs) w) refl
         go (x ∷ r) e = number-keeps x r cs B Bs e g
 
     -- an unquoted `>`, which is not in a body
@@ -435,7 +448,7 @@ module _ (L : Limits) (T : Table) (digits : DigitsPlain T) where
     byte-keeps : {q : ℕ} {d : Option ℕ} {m : Meaning} (b : ℕ) (cs : List Call) (Bs : List Body) → Means (signOf T b) q d m
         → Innermost (CallMatches T) q cs → depthAfter T 0 (w .output) ≡ some (depthWritten q cs)
         → BodiesLeft T d Bs → All (ValueMatches T) (w .definitions)
-        → Kept T (w .output) (S.byte L m b (stateOf t q cs Bs w))
+        → Kept T (w .output) (S.byte L (language T) m b (stateOf t q cs Bs w))
     byte-keeps b cs Bs (copying {q} {k} e) C O R D = put-keeps t Bs w (b ∷ []) q k cs (depth-one T (pred q) b ∙ e) C O R D
     byte-keeps b [] Bs (leaving e) C O R D = matches T tt (O ∙ ap some e) R D
     byte-keeps b (c ∷ cs) Bs (leaving e) C O R D = matches T (record { ended = C .0 .ended; hand = C .0 .hand ∙ ap some e }, C .1) O R D
@@ -461,7 +474,7 @@ module _ (L : Limits) (T : Table) (digits : DigitsPlain T) where
         (of-all (BodyMatches T) (g .bodies .1)) (without-matches T (B .opened) (B .applied) (g .values))
 
   -- by where the byte comes from
-  from-keeps : (t : Bytes) (q : ℕ) (cs : List Call) (Bs : List Body) (w : Standing) → Keeps T (S.from L T Bs t) (stateOf t q cs Bs w)
+  from-keeps : (t : Bytes) (q : ℕ) (cs : List Call) (Bs : List Body) (w : Standing) → Keeps T (S.from L (language T) Bs t) (stateOf t q cs Bs w)
   from-keeps [] q cs [] w g =
       text-end-keeps [] (S.counting 0 (stateOf [] q cs [] w) .standing) q cs (matches T (g .calls) (g .output) tt (g .values))
   from-keeps (b ∷ t) q cs [] w g =
@@ -472,7 +485,7 @@ module _ (L : Limits) (T : Table) (digits : DigitsPlain T) where
       s : State
       s = S.counting 0 (stateOf t q cs (B ∷ Bs) w)
 
-      go : (r : Bytes) → depthAfter T q r ≡ some 0 → Kept T (w .output) (S.fromBody L T r B Bs (stateOf t q cs (B ∷ Bs) w))
+      go : (r : Bytes) → depthAfter T q r ≡ some 0 → Kept T (w .output) (S.fromBody L (language T) r B Bs (stateOf t q cs (B ∷ Bs) w))
       go [] e =
           body-end-keeps t (s .standing) (S.ownCall s) q cs B Bs (depth-empty T q 0 e)
           (matches T (g .calls) (g .output) (g .bodies) (g .values))
@@ -481,15 +494,15 @@ module _ (L : Limits) (T : Table) (digits : DigitsPlain T) where
           (taken T q b r B Bs e (g .bodies .0 .list) (g .bodies .1)) (g .values)
 
   -- one scan
-  scan-keeps : (s : State) → Keeps T (scan L T) s
+  scan-keeps : (s : State) → Keeps T (scan L (language T)) s
   unfolding scan
   scan-keeps s g = from-keeps (s .text) (s .quotes) (s .calls) (s .bodies) (s .standing) g
 
   -- any number of scans: an end has the output of some state before it
-  scans-keep : (n : ℕ) (out : Bytes) (x : Step) → Kept T out x → (o : Bytes) × Kept T o (scans L T n x)
+  scans-keep : (n : ℕ) (out : Bytes) (x : Step) → Kept T out x → (o : Bytes) × Kept T o (scans L (language T) n x)
   unfolding scans
   scans-keep zero out x h = (out, h)
-  scans-keep (suc n) out (next s) h = scans-keep n (s .standing .output) (scan L T s) (scan-keeps s h)
+  scans-keep (suc n) out (next s) h = scans-keep n (s .standing .output) (scan L (language T) s) (scan-keeps s h)
   scans-keep (suc n) out (stop e) h = (out, h)
 
 -- The theorems -------------------------------------------------------------------------------------------------------
@@ -513,49 +526,56 @@ pub built-ins-match : (T : Table) → All (ValueMatches T) builtIns
 unfolding live
 built-ins-match T = uncounted-match T builtIns refl
 
--- The standard table has digits and `-` plain.
-pub standard-digits : DigitsPlain standard
-standard-digits = record { minus = refl; digit = λ b l h. ap signOfKind (kind b (omega arith) (omega arith)) }
+-- The standard table has digits, `-` and lower-case letters plain.
+pub standard-plain : DigitsAndLettersPlain standard
+standard-plain = record {
+  minus = refl;
+  digit = λ b l h. ap signOfKind (kind 48 10 b refl (omega arith) (omega arith));
+  letter = λ b l h. ap signOfKind (kind 97 26 b refl (omega arith) (omega arith));
+}
   where
-    kind : (b : ℕ) → 48 + (b - 48) ≡ b → b - 48 < 10 → getD standard b 0 ≡ 0
-    kind b e h =
-        ap (λ (n : ℕ). getD standard n 0) (sym e)
-        ∙ sym (getD-drop 48 standard (b - 48) 0)
-        ∙ List·getD-append (replicate 10 0) (drop 58 standard) 0 (b - 48) h
-        ∙ getD-replicate 10 (b - 48) 0 0 h
+    -- a byte of a stretch of n zeros
+    kind : (from n b : ℕ) → drop from standard ≡ replicate n 0 ++ drop (from + n) standard → from + (b - from) ≡ b → b - from < n
+        → getD standard b 0 ≡ 0
+    kind from n b z e h =
+        ap (λ (k : ℕ). getD standard k 0) (sym e)
+        ∙ sym (getD-drop from standard (b - from) 0)
+        ∙ ap (λ (l : Table). getD l (b - from) 0) z
+        ∙ List·getD-append (replicate n 0) (drop (from + n) standard) 0 (b - from) (rw (length-replicate {A = ℕ} n 0) h)
+        ∙ getD-replicate n (b - from) 0 0 h
 
-module _ (L : Limits) {T : Table} (digits : DigitsPlain T) where
+module _ (L : Limits) {T : Table} (plainly : DigitsAndLettersPlain T) where
   -- A scan keeps quotes matched,
-  pub quotes-kept : {s s′ : State} → QuotesMatch T s → scan L T s ≡ next s′ → QuotesMatch T s′
-  quotes-kept {s} g e = subst (Kept T (s .standing .output)) e (scan-keeps L T digits s g)
+  pub quotes-kept : {s s′ : State} → QuotesMatch T s → scan L (language T) s ≡ next s′ → QuotesMatch T s′
+  quotes-kept {s} g e = subst (Kept T (s .standing .output)) e (scan-keeps L T plainly s g)
 
   -- so they are in every state of a run.
   pub quotes-always : (n : ℕ) (t : Bytes) {ds : List Definition} {s : State} → All (ValueMatches T) ds
-      → scans L T n (next (start t ds)) ≡ next s → QuotesMatch T s
+      → scans L (language T) n (next (start t ds)) ≡ next s → QuotesMatch T s
   quotes-always n t {ds} D e =
-      let (out, h) = scans-keep L T digits n [] (next (start t ds)) (quotes-start t D) in
+      let (out, h) = scans-keep L T plainly n [] (next (start t ds)) (quotes-start t D) in
       subst (Kept T out) e h
 
   -- An end has the output of the state that was scanned,
-  pub output-kept : {s : State} {e : End} → QuotesMatch T s → scan L T s ≡ stop e → e .output ≡ s .standing .output
-  output-kept {s} g p = subst (Kept T (s .standing .output)) p (scan-keeps L T digits s g) .unchanged
+  pub output-kept : {s : State} {e : End} → QuotesMatch T s → scan L (language T) s ≡ stop e → e .output ≡ s .standing .output
+  output-kept {s} g p = subst (Kept T (s .standing .output)) p (scan-keeps L T plainly s g) .unchanged
 
   -- which ends as deep in quotes as is said of that state.
-  pub output-depth : {s : State} {e : End} → QuotesMatch T s → scan L T s ≡ stop e
+  pub output-depth : {s : State} {e : End} → QuotesMatch T s → scan L (language T) s ≡ stop e
       → depthAfter T 0 (e .output) ≡ some (depthWritten (s .quotes) (s .calls))
   output-depth g p = ap (depthAfter T 0) (output-kept g p) ∙ g .output
 
   -- Where a scan finishes the run, with 0 or 1, quotes in the output are matched,
-  pub output-matched : {s : State} {e : End} → QuotesMatch T s → scan L T s ≡ stop e → finishes (e .outcome) ≡ true → Matched T (e .output)
-  output-matched {s} g p = subst (Kept T (s .standing .output)) p (scan-keeps L T digits s g) .matched
+  pub output-matched : {s : State} {e : End} → QuotesMatch T s → scan L (language T) s ≡ stop e → finishes (e .outcome) ≡ true → Matched T (e .output)
+  output-matched {s} g p = subst (Kept T (s .standing .output)) p (scan-keeps L T plainly s g) .matched
 
   -- so they are in the output of every run that finishes.
   pub run-matched : (n : ℕ) (t : Bytes) {ds : List Definition} → All (ValueMatches T) ds
-      → finishes (run L T n t ds .outcome) ≡ true → Matched T (run L T n t ds .output)
+      → finishes (run L (language T) n t ds .outcome) ≡ true → Matched T (run L (language T) n t ds .output)
   unfolding run
   run-matched n t {ds} D =
-      let (out, h) = scans-keep L T digits n [] (next (start t ds)) (quotes-start t D) in
-      go out (scans L T n (next (start t ds))) h
+      let (out, h) = scans-keep L T plainly n [] (next (start t ds)) (quotes-start t D) in
+      go out (scans L (language T) n (next (start t ds))) h
     where
       go : (out : Bytes) (x : Step) → Kept T out x → finishes (endOf x .outcome) ≡ true → Matched T (endOf x .output)
       go out (next s) h f = absurd (false-true f)

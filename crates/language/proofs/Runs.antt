@@ -3,19 +3,19 @@ use Prim.Native.Nat.{ℕ, zero, suc, _≤_, _+_}
 use native.Mathlib.Nat.{zero-add, suc-add}
 use mathlib.Core.Path.{_≡_, refl, sym, _∙_}
 use lib.ListN.{length}
-use Rattle.language.specs.Signs.{Bytes, Table}
+use Rattle.language.specs.Signs.{Bytes, Language}
 use Rattle.language.specs.Ends.{End}
 use Rattle.language.specs.Scanning.{State, Step, next, stop, noLimits}
 use Rattle.language.specs.Scanning as S
 use Rattle.language.specs.Substitution.{Held, Result, stretch, finish, deeper, _then_}
 use Rattle.language.proofs.Leads.{not-end, scans-stop}
 
-module _ (T : Table) where
+module _ (G : Language) where
   abbrev pub scan : State → Step
-  scan s = S.scan noLimits T s
+  scan s = S.scan noLimits G s
 
   abbrev pub scans : ℕ → Step → Step
-  scans n t = S.scans noLimits T n t
+  scans n t = S.scans noLimits G n t
 
   -- a scan from s, now or later, has the result t
   pub data Gets (t : Step) : State → Type 0 where
@@ -44,28 +44,28 @@ module _ (T : Table) where
 
   -- What a result of substitution says of the machine's run from s: a value leads to the step that κ makes of it, leaves at
   -- most n bytes and is good; an end is that end; "deeper" lasts d scans at least.
-  pub data Comes (κ : Bytes → Held → Step) (G : Held → Type 0) (n d : ℕ) (s : State) : Result → Type 0 where
-    toStretch : {r : Bytes} {h : Held} → Gets (κ r h) s → length r ≤ n → G h → Comes κ G n d s (stretch r h)
-    toFinish : {e : End} → Gets (stop e) s → Comes κ G n d s (finish e)
-    toDeeper : Lasts d s → Comes κ G n d s deeper
+  pub data Comes (κ : Bytes → Held → Step) (P : Held → Type 0) (n d : ℕ) (s : State) : Result → Type 0 where
+    toStretch : {r : Bytes} {h : Held} → Gets (κ r h) s → length r ≤ n → P h → Comes κ P n d s (stretch r h)
+    toFinish : {e : End} → Gets (stop e) s → Comes κ P n d s (finish e)
+    toDeeper : Lasts d s → Comes κ P n d s deeper
 
   -- after one scan or more
-  pub after : {κ : Bytes → Held → Step} {G : Held → Type 0} {n d : ℕ} {s s′ : State} {r : Result}
-      → Gets (next s′) s → Comes κ G n d s′ r → Comes κ G n (suc d) s r
+  pub after : {κ : Bytes → Held → Step} {P : Held → Type 0} {n d : ℕ} {s s′ : State} {r : Result}
+      → Gets (next s′) s → Comes κ P n d s′ r → Comes κ P n (suc d) s r
   after g (toStretch c l k) = toStretch (join g c) l k
   after g (toFinish c) = toFinish (join g c)
   after g (toDeeper l) = toDeeper (lasts g l)
 
-  pub weaker : {κ : Bytes → Held → Step} {G : Held → Type 0} {n d : ℕ} {s : State} {r : Result} → Comes κ G n (suc d) s r → Comes κ G n d s r
+  pub weaker : {κ : Bytes → Held → Step} {P : Held → Type 0} {n d : ℕ} {s : State} {r : Result} → Comes κ P n (suc d) s r → Comes κ P n d s r
   weaker (toStretch c l k) = toStretch c l k
   weaker (toFinish c) = toFinish c
   weaker (toDeeper l) = toDeeper (fewer l)
 
   -- one evaluation after another
-  pub thenComes : {κ κ′ : Bytes → Held → Step} {G G′ : Held → Type 0} {n n′ d : ℕ} {s : State} {r : Result} (f : Bytes → Held → Result)
-      → Comes κ G n d s r
-      → ((x : Bytes) (h : Held) → Gets (κ x h) s → length x ≤ n → G h → Comes κ′ G′ n′ d s (f x h))
-      → Comes κ′ G′ n′ d s (r then f)
+  pub thenComes : {κ κ′ : Bytes → Held → Step} {P P′ : Held → Type 0} {n n′ d : ℕ} {s : State} {r : Result} (f : Bytes → Held → Result)
+      → Comes κ P n d s r
+      → ((x : Bytes) (h : Held) → Gets (κ x h) s → length x ≤ n → P h → Comes κ′ P′ n′ d s (f x h))
+      → Comes κ′ P′ n′ d s (r then f)
   thenComes f (toStretch {r = x} {h = h} c l g) k = k x h c l g
   thenComes f (toFinish c) k = toFinish c
   thenComes f (toDeeper l) k = toDeeper l
@@ -79,7 +79,7 @@ module _ (T : Table) where
     where
       go : (t : Step) → scan s ≡ t → scans n t ≡ stop e → ((s′ : State) → scans n (next s′) ≡ stop e → Gets (stop e) s′) → Gets (stop e) s
       go (next s′) q p ih = later q (ih s′ p)
-      go (stop e′) q p ih = now (q ∙ sym (scans-stop noLimits T n e′) ∙ p)
+      go (stop e′) q p ih = now (q ∙ sym (scans-stop noLimits G n e′) ∙ p)
 
   pub getsScans : {s : State} {e : End} → Gets (stop e) s → (n : ℕ) × (scans n (next s) ≡ stop e)
   unfolding S.scans
@@ -100,6 +100,6 @@ module _ (T : Table) where
 
   pub scansMore : (n k : ℕ) (t : Step) (e : End) → scans n t ≡ stop e → scans (n + k) t ≡ stop e
   unfolding S.scans
-  scansMore zero k t e p = rw (p, zero-add) (scans-stop noLimits T k e)
+  scansMore zero k t e p = rw (p, zero-add) (scans-stop noLimits G k e)
   scansMore (suc n) k (next s) e p = rw suc-add (scansMore n k (scan s) e p)
   scansMore (suc n) k (stop e′) e p = rw suc-add p

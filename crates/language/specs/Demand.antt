@@ -5,6 +5,7 @@ use mathlib.Core.Option.{none, some}
 use mathlib.Core.Logic.{_↔_}
 use lib.ListN.{length}
 use lib.Dec.{T as So}
+use Rattle.language.specs.Signs.{language}
 use Rattle.language.specs.Outcomes.{endOfText}
 use Rattle.language.specs.Ends.{End, reported}
 use Rattle.language.specs.Substitution.{substituted}
@@ -13,7 +14,7 @@ use Rattle.language.specs.Expansion.{Given, Returned, refusals, refusedB
 -- Substitution of the text comes to the end e at some depth, and what was lent is at least what it counted.
 pub record Affords (g : Given) (e : End) : Type 0 where
   pub depth : ℕ
-  pub comes : substituted (g .table) depth (g .text) (g .definitions) ≡ some e
+  pub comes : substituted (language (g .table)) depth (g .text) (g .definitions) ≡ some e
   pub enoughCells : e .most ≤ length (g .lent .cells)
   pub enoughOutput : length (e .output) ≤ length (g .lent .output)
   pub enoughScans : e .scans ≤ g .allowance

@@ -5,7 +5,7 @@ use mathlib.Core.List.{List, [], _∷_, _++_}
 use mathlib.Core.Option.{Option, none, some}
 use lib.ListN.{length, drop}
 use lib.Dec.{ltb}
-use Rattle.language.specs.Signs.{Bytes, Table, textLimit, cellsLimit, outputLimit}
+use Rattle.language.specs.Signs.{Bytes, Table, language, textLimit, cellsLimit, outputLimit}
 use Rattle.language.specs.Outcomes
 use Rattle.language.specs.Definitions.{Definition}
 use Rattle.language.specs.Ends.{End, Reported, reported}
@@ -75,7 +75,7 @@ limitsOf cells output = record { cells = atMost cells; output = atMost output }
 
 -- the end of a run in what is lent
 abbrev pub ending : Given → End
-ending g = run (limitsOf (length (g .lent .cells)) (length (g .lent .output))) (g .table) (g .allowance) (g .text) (g .definitions)
+ending g = run (limitsOf (length (g .lent .cells)) (length (g .lent .output))) (language (g .table)) (g .allowance) (g .text) (g .definitions)
 
 abbrev pub returnedBy : End → Lent → Returned
 returnedBy e m = record { report = reported e; lent = lent (cleared (m .cells)) (overwritten (e .output) (m .output)) }

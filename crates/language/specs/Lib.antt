@@ -6,6 +6,7 @@ pub mod Charge
 pub mod Ends
 pub mod Scanning
 pub mod Substitution
+pub mod Letters
 pub mod Matched
 pub mod Octets
 pub mod Expansion

@@ -71,6 +71,7 @@ pub record QuotesMatch (T : Table) (s : State) : Type 0 where
   pub values : All (ValueMatches T) (s .standing .definitions)
 
 -- the bytes of which a result of arithmetic is made, and those that may follow `~` in a body, are no signs
-pub record DigitsPlain (T : Table) : Type 0 where
+pub record DigitsAndLettersPlain (T : Table) : Type 0 where
   pub minus : signOf T 45 ≡ plain
   pub digit : (b : ℕ) → 48 ≤ b → b ≤ 57 → signOf T b ≡ plain
+  pub letter : (b : ℕ) → 97 ≤ b → b ≤ 122 → signOf T b ≡ plain

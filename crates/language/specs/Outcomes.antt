@@ -27,8 +27,8 @@ appliesNothing = 10
 abbrev pub parameterInText : ℕ
 parameterInText = 11
 
-abbrev pub parameterNotDigit : ℕ
-parameterNotDigit = 12
+abbrev pub fetchesNothing : ℕ
+fetchesNothing = 12
 
 abbrev pub notSupplied : ℕ
 notSupplied = 13

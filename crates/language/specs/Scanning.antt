@@ -5,7 +5,7 @@ use mathlib.Core.List.{List, [], _∷_, _++_}
 use mathlib.Core.Option.{Option, none, some}
 use lib.ListN.{length}
 use lib.Dec.{leb, ltb}
-use Rattle.language.specs.Signs.{Bytes, Table, Meaning, copied, leftOut, opens, separates, applies, fetches, unquotes, meaning, parameterNumber}
+use Rattle.language.specs.Signs.{Bytes, Language, Meaning, copied, leftOut, opens, separates, applies, fetches, unquotes, meaning}
 use Rattle.language.specs.Outcomes
 use Rattle.language.specs.Definitions.{Definition, defined, altered, oldest, without}
 use Rattle.language.specs.BuiltIns.{Deed, reads, defines, gives, alters, faulty, deed, parameter}
@@ -241,16 +241,17 @@ module _ (L : Limits) where
   fetchSupplied false p s = ends Outcomes.notSupplied s
 
   abbrev pub fetchNumber : Option ℕ → List Bytes → State → Step
-  fetchNumber none list s = ends Outcomes.parameterNotDigit s
+  fetchNumber none list s = ends Outcomes.fetchesNothing s
   fetchNumber (some k) list s = fetchSupplied (ltb k (length list)) (parameter k list) s
 
-  abbrev pub fetchInBody : Bytes → Body → List Body → State → Step
-  fetchInBody [] body bodies s = ends Outcomes.parameterNotDigit s
-  fetchInBody (b ∷ r) body bodies s = fetchNumber (parameterNumber b) (body .list) (withBodies (withRest r body ∷ bodies) s)
+  -- 12: the byte after `~` stands for no parameter, or the body ends
+  abbrev pub fetchInBody : Language → Bytes → Body → List Body → State → Step
+  fetchInBody G [] body bodies s = ends Outcomes.fetchesNothing s
+  fetchInBody G (b ∷ r) body bodies s = fetchNumber (G .parameterNumber b) (body .list) (withBodies (withRest r body ∷ bodies) s)
 
-  abbrev pub fetch : List Body → ℕ → State → Step
-  fetch [] b s = fetchInText (s .calls) b s
-  fetch (body ∷ bodies) b s = fetchInBody (body .rest) body bodies s
+  abbrev pub fetch : Language → List Body → ℕ → State → Step
+  fetch G [] b s = fetchInText (s .calls) b s
+  fetch G (body ∷ bodies) b s = fetchInBody G (body .rest) body bodies s
 
   -- an unquoted `>`: 1 or 16 in the text. In a body, where it is shown never to stand, it is copied.
   abbrev pub unquote : List Body → List Call → ℕ → State → Step
@@ -259,14 +260,14 @@ module _ (L : Limits) where
   unquote (body ∷ bodies) cs b s = put (b ∷ []) s
 
   -- a byte that was taken from its source
-  abbrev pub byte : Meaning → ℕ → State → Step
-  byte (copied q) b s = put (b ∷ []) (withQuotes q s)
-  byte (leftOut q) b s = next (withQuotes q s)
-  byte opens b s = openCall s
-  byte separates b s = separate (s .calls) b s
-  byte applies b s = apply (ownCall s) b s
-  byte fetches b s = fetch (s .bodies) b s
-  byte unquotes b s = unquote (s .bodies) (s .calls) b s
+  abbrev pub byte : Language → Meaning → ℕ → State → Step
+  byte G (copied q) b s = put (b ∷ []) (withQuotes q s)
+  byte G (leftOut q) b s = next (withQuotes q s)
+  byte G opens b s = openCall s
+  byte G separates b s = separate (s .calls) b s
+  byte G applies b s = apply (ownCall s) b s
+  byte G fetches b s = fetch G (s .bodies) b s
+  byte G unquotes b s = unquote (s .bodies) (s .calls) b s
 
   -- 17: "text ended inside quotes (before 18)"
   abbrev pub textEnd : ℕ → List Call → State → Step
@@ -281,15 +282,15 @@ module _ (L : Limits) where
   bodyEnd false body bodies s =
       next (withQuotes 0 (withBodies bodies (withDefinitions (without (body .opened) (body .applied) (s .standing .definitions)) s)))
 
-  module _ (T : Table) where
+  module _ (G : Language) where
     abbrev pub fromBody : Bytes → Body → List Body → State → Step
     fromBody [] body bodies s = bodyEnd (ownCall s) body bodies (counting 0 s)
-    fromBody (b ∷ r) body bodies s = byte (meaning T (s .quotes) b) b (withBodies (withRest r body ∷ bodies) (counting 0 s))
+    fromBody (b ∷ r) body bodies s = byte G (meaning (G .table) (s .quotes) b) b (withBodies (withRest r body ∷ bodies) (counting 0 s))
 
     -- "Bytes come from the innermost body being read, else from the text."
     abbrev pub from : List Body → Bytes → State → Step
     from [] [] s = textEnd (s .quotes) (s .calls) (counting 0 s)
-    from [] (b ∷ t) s = byte (meaning T (s .quotes) b) b (withText t (counting 1 s))
+    from [] (b ∷ t) s = byte G (meaning (G .table) (s .quotes) b) b (withText t (counting 1 s))
     from (body ∷ bodies) t s = fromBody (body .rest) body bodies s
 
     -- "One scan takes the standing of the run and gives the next."
@@ -317,6 +318,6 @@ abbrev pub endOf : Step → End
 endOf (stop e) = e
 endOf (next s) = endWith Outcomes.noScansLeft (s .standing)
 
--- the run over a text with this allowance of scans
-unfoldable pub run : Limits → Table → ℕ → Bytes → List Definition → End
-run L T allowance t ds = endOf (scans L T allowance (next (start t ds)))
+-- the run over a text in this language, with this allowance of scans
+unfoldable pub run : Limits → Language → ℕ → Bytes → List Definition → End
+run L G allowance t ds = endOf (scans L G allowance (next (start t ds)))

@@ -1,12 +1,12 @@
 -- Document 01, Bytes and signs.
-use Prim.Native.Nat.{ℕ, zero, suc, _-_}
+use Prim.Native.Nat.{ℕ, zero, suc, _+_, _-_}
 use Prim.Native.Char.{code}
 use Prim.Native.String.{String}
-use mathlib.Core.Bool.{cond}
+use mathlib.Core.Bool.{Bool, cond, _&&_}
 use mathlib.Core.List.{List, [], _∷_}
 use mathlib.Core.Option.{Option, none, some}
 use lib.ListN.{getD}
-use lib.Dec.{eqb}
+use lib.Dec.{eqb, leb}
 use Rattle.decimal.specs.Operand.{isDigit}
 
 -- "A text is bytes, each 8 bits."
@@ -71,9 +71,30 @@ unfoldable pub meaning : Table → ℕ → ℕ → Meaning
 meaning T zero b = outside (signOf T b)
 meaning T (suc q) b = inside q (signOf T b)
 
--- the parameter that the byte after `~` in a body stands for: "0 is the name", "a digit only"
+-- the parameter that the byte after `~` in a body stands for by document 01: "0 is the name", "a digit only"
+abbrev pub parameterDigit : ℕ → Option ℕ
+parameterDigit b = cond (isDigit b) (some (b - 48)) none
+
+-- Document 02, One: "a lower-case letter `a` to `z`"
+abbrev pub isLetter : ℕ → Bool
+isLetter b = leb 97 b && leb b 122
+
+-- "After `~` in a body, a lower-case letter `a` to `z` fetches parameters 10 to 35."
 abbrev pub parameterNumber : ℕ → Option ℕ
-parameterNumber b = cond (isDigit b) (some (b - 48)) none
+parameterNumber b = let digit = parameterDigit b in cond (isLetter b) (some (b - 97 + 10)) digit
+
+-- what bytes stand for: their kinds, and after `~` in a body their parameters
+pub record Language : Type 0 where
+  pub table : Table
+  pub parameterNumber : ℕ → Option ℕ
+
+-- the language as it is, with any table
+abbrev pub language : Table → Language
+language T = record { table = T; parameterNumber = parameterNumber }
+
+-- the language before request One
+abbrev pub digitsOnly : Table → Language
+digitsOnly T = record { table = T; parameterNumber = parameterDigit }
 
 -- the standard table: `$` 1, `,` 2, `;` 3, `~` 4, `<` 5, `>` 6
 abbrev pub standard : Table

@@ -5,7 +5,7 @@ use mathlib.Core.List.{List, [], _∷_, _++_}
 use mathlib.Core.Option.{Option, none, some}
 use lib.ListN.{length}
 use lib.Dec.{ltb}
-use Rattle.language.specs.Signs.{Bytes, Table, Meaning, copied, leftOut, opens, separates, applies, fetches, unquotes, meaning, parameterNumber}
+use Rattle.language.specs.Signs.{Bytes, Language, Meaning, copied, leftOut, opens, separates, applies, fetches, unquotes, meaning}
 use Rattle.language.specs.Outcomes
 use Rattle.language.specs.Definitions.{Definition, defined, altered, oldest, newer, between, without}
 use Rattle.language.specs.BuiltIns.{Deed, reads, defines, gives, alters, faulty, deed, parameter}
@@ -241,16 +241,17 @@ module _ (nested : Eval) (go : Go) where
   fetchSupplied false c p r h = ends Outcomes.notSupplied h
 
   abbrev pub fetchNumber : Option ℕ → List Bytes → Collecting → Bytes → Held → Result
-  fetchNumber none list c r h = ends Outcomes.parameterNotDigit h
+  fetchNumber none list c r h = ends Outcomes.fetchesNothing h
   fetchNumber (some k) list c r h = fetchSupplied (ltb k (length list)) c (parameter k list) r h
 
-  abbrev pub fetchInBody : List Bytes → Collecting → Bytes → Held → Result
-  fetchInBody list c [] h = ends Outcomes.parameterNotDigit h
-  fetchInBody list c (b ∷ r) h = fetchNumber (parameterNumber b) list c r h
+  -- Document 02, One: "substitution reads letters the same way"
+  abbrev pub fetchInBody : Language → List Bytes → Collecting → Bytes → Held → Result
+  fetchInBody G list c [] h = ends Outcomes.fetchesNothing h
+  fetchInBody G list c (b ∷ r) h = fetchNumber (G .parameterNumber b) list c r h
 
-  abbrev pub fetch : Source → Collecting → ℕ → Bytes → Held → Result
-  fetch text c b r h = fetchInText c b r h
-  fetch (body list) c b r h = fetchInBody list c r h
+  abbrev pub fetch : Language → Source → Collecting → ℕ → Bytes → Held → Result
+  fetch G text c b r h = fetchInText c b r h
+  fetch G (body list) c b r h = fetchInBody G list c r h
 
   -- "the end at a bare `>`"; in a body, where none ever stands, it is copied
   abbrev pub unquote : Source → Collecting → ℕ → Bytes → Held → Result
@@ -260,14 +261,14 @@ module _ (nested : Eval) (go : Go) where
   unquote (body list) c b r h = go 0 r (put c (b ∷ []) h)
 
   -- "Plain stretches stand for themselves, quoted ones lose one layer"
-  abbrev pub byte : Meaning → Source → Collecting → List ℕ → ℕ → Bytes → Held → Result
-  byte (copied q) src c reading b r h = go q r (put c (b ∷ []) h)
-  byte (leftOut q) src c reading b r h = go q r h
-  byte opens src c reading b r h = call src c reading r h
-  byte separates src c reading b r h = go 0 r (divide c b h)
-  byte applies src c reading b r h = apply src c b r h
-  byte fetches src c reading b r h = fetch src c b r h
-  byte unquotes src c reading b r h = unquote src c b r h
+  abbrev pub byte : Language → Meaning → Source → Collecting → List ℕ → ℕ → Bytes → Held → Result
+  byte G (copied q) src c reading b r h = go q r (put c (b ∷ []) h)
+  byte G (leftOut q) src c reading b r h = go q r h
+  byte G opens src c reading b r h = call src c reading r h
+  byte G separates src c reading b r h = go 0 r (divide c b h)
+  byte G applies src c reading b r h = apply src c b r h
+  byte G fetches src c reading b r h = fetch G src c b r h
+  byte G unquotes src c reading b r h = unquote src c b r h
 
 -- the end of the source
 abbrev pub textEnd : ℕ → Collecting → Held → Result
@@ -292,14 +293,14 @@ scannedEnd h = handing (scanned 0 (h .handed)) h
 abbrev pub scannedByte : Source → Held → Held
 scannedByte src h = handing (scanned (textBytes src) (h .handed)) h
 
-module _ (T : Table) where
+module _ (G : Language) where
   -- a stretch of at most n bytes
   unfoldable pub within : Eval → Source → Collecting → List ℕ → ℕ → Go
   within nested src c reading zero q [] h = sourceEnd src c q (scannedEnd h)
   within nested src c reading zero q (b ∷ r) h = deeper
   within nested src c reading (suc n) q [] h = sourceEnd src c q (scannedEnd h)
   within nested src c reading (suc n) q (b ∷ r) h =
-      byte nested (within nested src c reading n) (meaning T q b) src c reading b r (scannedByte src h)
+      byte nested (within nested src c reading n) G (meaning (G .table) q b) src c reading b r (scannedByte src h)
 
   -- "A depth allowance bounds nested calls"
   unfoldable pub eval : ℕ → Eval
@@ -316,6 +317,6 @@ ended (finish e) = some e
 ended deeper = none
 
 -- "Substitution is fed the text, the table of kinds, the definitions a run starts with .. and a depth allowance, and nothing
--- else of a run."
-unfoldable pub substituted : Table → ℕ → Bytes → List Definition → Option End
-substituted T d t ds = ended (eval T d text noCall [] t (start ds))
+-- else of a run." The table comes with what the byte after `~` stands for.
+unfoldable pub substituted : Language → ℕ → Bytes → List Definition → Option End
+substituted G d t ds = ended (eval G d text noCall [] t (start ds))

@@ -15,7 +15,7 @@ pub const APPLIES_NOTHING: u32 = 10;
 
 pub const PARAMETER_IN_TEXT: u32 = 11;
 
-pub const PARAMETER_NOT_DIGIT: u32 = 12;
+pub const FETCHES_NOTHING: u32 = 12;
 
 pub const NOT_SUPPLIED: u32 = 13;
 

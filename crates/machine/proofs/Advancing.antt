@@ -6,7 +6,7 @@ use mathlib.Core.Bool.{Bool, true, false, cond, true≢false}
 use lib.ListN.{length, getD}
 use lib.Dec.{eqb, ltb}
 use borrow.Author.Tests.{ltb-false, leb-true, le-ltb, le-leb, eqb-true, eq-eqb}
-use Rattle.language.specs.Signs.{Bytes, Table, cellsLimit}
+use Rattle.language.specs.Signs.{Bytes, Table, language, cellsLimit}
 use Rattle.language.specs.BuiltIns.{builtIns}
 use Rattle.language.specs.Scanning.{State, Step, next, stop, Limits}
 use Rattle.language.specs.Scanning as S
@@ -97,7 +97,7 @@ module _ (T : Table) (text : Bytes) (n k : ℕ) where
   pub record Onward (start : Bytes) (all : Step) (r : Run) (m : Lent) (due : ℕ) : Type 0 where
     pub state : State
     pub held : Holds text start r m state
-    pub rest : all ≡ S.scans L T due (next state)
+    pub rest : all ≡ S.scans L (language T) due (next state)
 
   -- what the loop keeps until so many scans are made: r₀ and m₀ stood before its first one
   pub record Going (r₀ : Run) (m₀ : Lent) (due₀ : ℕ) (r : Run) (m : Lent) (until : ℕ) : Type 0 where
@@ -106,7 +106,7 @@ module _ (T : Table) (text : Bytes) (n k : ℕ) where
     pub small : (i : ℕ) → getD (m .cells) i 0 < 4294967296
     pub inRange : InRange n k r
     pub counted : until ≤ lastScan
-    pub onward : (start : Bytes) (s : State) → Holds text start r₀ m₀ s → Onward start (S.scans L T due₀ (next s)) r m (until - r .counts .scans)
+    pub onward : (start : Bytes) (s : State) → Holds text start r₀ m₀ s → Onward start (S.scans L (language T) due₀ (next s)) r m (until - r .counts .scans)
 
   pub begins : (r : Run) (m : Lent) (due : ℕ) → length (m .cells) ≡ n → length (m .output) ≡ k → ((i : ℕ) → getD (m .cells) i 0 < 4294967296)
       → InRange n k r → r .counts .scans + due ≤ lastScan → Going r m due r m (r .counts .scans + due)
@@ -118,7 +118,7 @@ module _ (T : Table) (text : Bytes) (n k : ℕ) where
         small = b;
         inRange = h;
         counted = t;
-        onward = λ start s x. record { state = s; held = x; rest = ap (λ (j : ℕ). S.scans L T j (next s)) all };
+        onward = λ start s x. record { state = s; held = x; rest = ap (λ (j : ℕ). S.scans L (language T) j (next s)) all };
       }
 
   module _ {r₀ r : Run} {m₀ m : Lent} {due₀ until : ℕ} (g : Going r₀ m₀ due₀ r m until) (some : r .counts .scans < until)
@@ -132,44 +132,44 @@ module _ (T : Table) (text : Bytes) (n k : ℕ) where
         (subst (λ (j : ℕ). InRange (length (m .cells)) j r) (sym (g .output)) (subst (λ (j : ℕ). InRange j k r) (sym (g .cells)) (g .inRange))))))
 
     module _ {start : Bytes} {all : Step} (x : Onward start all r m (until - r .counts .scans)) where
-      simulated : Simulates n builtIns text start a (S.scan L T (x .state))
+      simulated : Simulates n builtIns text start a (S.scan L (language T) (x .state))
       simulated =
           let h = x .held .represents in
           let size : length start ≡ k = sym (outputSize (h .lies)) ∙ g .output in
-          subst (λ (y : After). Simulates n builtIns text start y (S.scan L T (x .state))) (sym e)
-          (subst (λ (j : ℕ). Simulates n builtIns text start (M.step r T text m) (S.scan (limitsOf n j) T (x .state))) size
-          (subst (λ (j : ℕ). Simulates j builtIns text start (M.step r T text m) (S.scan (limitsOf j (length start)) T (x .state))) (g .cells)
+          subst (λ (y : After). Simulates n builtIns text start y (S.scan L (language T) (x .state))) (sym e)
+          (subst (λ (j : ℕ). Simulates n builtIns text start (M.step r T text m) (S.scan (limitsOf n j) (language T) (x .state))) size
+          (subst (λ (j : ℕ). Simulates j builtIns text start (M.step r T text m) (S.scan (limitsOf j (length start)) (language T) (x .state))) (g .cells)
           (stepSim T h (x .held .octets))))
 
       -- what the scan comes to leads where all leads
-      leads : (t : Step) → S.scan L T (x .state) ≡ t → all ≡ S.scans L T (until - (r .counts .scans + 1)) t
+      leads : (t : Step) → S.scan L (language T) (x .state) ≡ t → all ≡ S.scans L (language T) (until - (r .counts .scans + 1)) t
       unfolding S.scans
       leads t q =
           let more : until - r .counts .scans ≡ suc (until - (r .counts .scans + 1)) = omega arith in
-          x .rest ∙ ap (λ (j : ℕ). S.scans L T j (next (x .state))) more ∙ ap (λ (y : Step). S.scans L T (until - (r .counts .scans + 1)) y) q
+          x .rest ∙ ap (λ (j : ℕ). S.scans L (language T) j (next (x .state))) more ∙ ap (λ (y : Step). S.scans L (language T) (until - (r .counts .scans + 1)) y) q
 
       goesOnto : a .answer ≡ GoesOn → Onward start all (a .run) (a .lent) (until - a .run .counts .scans)
-      goesOnto out = go (S.scan L T (x .state)) refl simulated
+      goesOnto out = go (S.scan L (language T) (x .state)) refl simulated
         where
-          go : (t : Step) → S.scan L T (x .state) ≡ t → Simulates n builtIns text start a t → Onward start all (a .run) (a .lent) (until - a .run .counts .scans)
+          go : (t : Step) → S.scan L (language T) (x .state) ≡ t → Simulates n builtIns text start a t → Onward start all (a .run) (a .lent) (until - a .run .counts .scans)
           go (next s) q (goes p h) = record {
             state = s;
             held = record {
               represents = rw cs h;
-              octets = onNext (octets-kept L T (x .state) (x .held .octets)) q;
+              octets = onNext (octets-kept L (language T) (x .state) (x .held .octets)) q;
               inRange = rw (cs, os) (kept .kept out);
             };
-            rest = leads (next s) q ∙ ap (λ (j : ℕ). S.scans L T (until - j) (next s)) (sym (kept .counted out));
+            rest = leads (next s) q ∙ ap (λ (j : ℕ). S.scans L (language T) (until - j) (next s)) (sym (kept .counted out));
           }
           go (stop y) q (stops h) = let z : _≡_ {A = ℕ} 0 1 = cc (h .answer) in absurd (omega arith)
 
       endsHere : (st : Stepped) (m′ : Lent) → a ≡ M.leaves st m′ → (a .answer ≡ GoesOn → ⊥) → Comes text start st m′ all
-      endsHere st m′ is out = go (S.scan L T (x .state)) refl simulated
+      endsHere st m′ is out = go (S.scan L (language T) (x .state)) refl simulated
         where
-          go : (t : Step) → S.scan L T (x .state) ≡ t → Simulates n builtIns text start a t → Comes text start st m′ all
+          go : (t : Step) → S.scan L (language T) (x .state) ≡ t → Simulates n builtIns text start a t → Comes text start st m′ all
           go (next s) q (goes p h) = absurd (out p)
           go (stop y) q (stops h) =
-              let lead : all ≡ stop y = leads (stop y) q ∙ scans-stop L T (until - (r .counts .scans + 1)) y in
+              let lead : all ≡ stop y = leads (stop y) q ∙ scans-stop L (language T) (until - (r .counts .scans + 1)) y in
               rw lead (subst (λ (j : After). EndsAs builtIns start j y) is h)
 
     -- one more scan is made
@@ -213,6 +213,6 @@ module _ (T : Table) (text : Bytes) (n k : ℕ) where
     moves = λ start s h.
         let x = g .onward start s h in
         let none : until - r .counts .scans ≡ 0 = omega arith in
-        let at : S.scans L T due₀ (next s) ≡ next (x .state) = x .rest ∙ ap (λ (j : ℕ). S.scans L T j (next (x .state))) none in
+        let at : S.scans L (language T) due₀ (next s) ≡ next (x .state) = x .rest ∙ ap (λ (j : ℕ). S.scans L (language T) j (next (x .state))) none in
         rw (c, o) (rw at (refl, x .held));
   }

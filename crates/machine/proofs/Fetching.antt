@@ -1,16 +1,17 @@
--- A byte of a body, and `~` with its digit.
+-- A byte of a body, and `~` with its digit or letter.
 use Prim.Native.Nat.{ℕ, zero, suc, _+_, _-_, _%_, _≤_, _<_}
 use native.Mathlib.Omega.{arith}
 use mathlib.Core.Path.{_≡_, refl, sym, ap, _∙_}
-use mathlib.Core.Bool.{Bool, true, false, cond}
+use mathlib.Core.Bool.{Bool, true, false, cond, _&&_}
 use mathlib.Core.List.{List, [], _∷_, _++_}
 use mathlib.Core.Option.{Option, none, some}
 use lib.ListN.{length, take, drop, getD, length-drop}
 use lib.Seq.{getD-drop}
 use lib.Dec.{leb, ltb}
-use borrow.Author.Tests.{le-leb, lt-leb, ne-eqb, ltb-true, ltb-false}
+use borrow.Author.Tests.{le-leb, lt-leb, ne-eqb, leb-true, ltb-true, ltb-false}
+use Rattle.decimal.specs.Operand.{isDigit}
 use Rattle.language.specs.Outcomes
-use Rattle.language.specs.Signs.{Bytes, parameterNumber}
+use Rattle.language.specs.Signs.{Bytes, Table, parameterDigit, parameterNumber, language}
 use Rattle.language.specs.Definitions.{Definition}
 use Rattle.language.specs.BuiltIns.{parameter}
 use Rattle.language.specs.Charge.{argumentsPrice, definitionsPrice}
@@ -100,18 +101,21 @@ module _ {n : ℕ} {older : List Definition} {whole start : List ℕ} {r : Run} 
 -- The parameter that a byte stands for: the code's number is the scanning's.
 pub data Numbered : ℕ → Option ℕ → Type 0 where
   no : Numbered nowhere none
-  number : {k : ℕ} → k < 10 → Numbered k (some k)
+  number : {k : ℕ} → k < 36 → Numbered k (some k)
 
 pub numbered : (x : ℕ) → Numbered (M.parameterNumber x) (parameterNumber x)
-numbered x = low (ltb x 48) refl
+numbered x = letter (leb 97 x) (leb x 122) refl
   where
-    high′ : (t : Bool) → ltb 57 x ≡ t → 48 ≤ x → Numbered (cond t nowhere (x - 48)) (cond (leb x 57) (some (x - 48)) none)
-    high′ true e q = rw (lt-leb x 57 (ltb-true 57 x e)) no
-    high′ false e q = let z = ltb-false 57 x e in let w : x - 48 < 10 = omega arith in rw (le-leb x 57 z) (number w)
+    digit : (a b : Bool) → leb x 57 ≡ b → Numbered (cond (a && b) (x - 48) nowhere) (cond (a && b) (some (x - 48)) none)
+    digit true true e = let z = leb-true x 57 e in let w : x - 48 < 36 = omega arith in number w
+    digit true false e = no
+    digit false b e = no
 
-    low : (t : Bool) → ltb x 48 ≡ t → Numbered (cond t nowhere (cond (ltb 57 x) nowhere (x - 48))) (parameterNumber x)
-    low true e = rw (lt-leb 48 x (ltb-true x 48 e)) no
-    low false e = rw (le-leb 48 x (ltb-false x 48 e)) (high′ (ltb 57 x) refl (ltb-false x 48 e))
+    letter : (a b : Bool) → leb x 122 ≡ b
+        → Numbered (cond (a && b) (x - 97 + 10) (cond (isDigit x) (x - 48) nowhere)) (cond (a && b) (some (x - 97 + 10)) (parameterDigit x))
+    letter true true e = let z = leb-true x 122 e in let w : x - 97 + 10 < 36 = omega arith in number w
+    letter true false e = digit (leb 48 x) (leb x 57) refl
+    letter false b e = digit (leb 48 x) (leb x 57) refl
 
 module _ {n : ℕ} {older : List Definition} {whole start : List ℕ} {r : Run} {l o : List ℕ} {s : State}
     (free : definitionsPrice older ≡ 0) (h : Represents n older whole start r (lent l o) s) (B : Body) (Bs : List Body) (e : s .bodies ≡ B ∷ Bs) where
@@ -122,7 +126,7 @@ module _ {n : ℕ} {older : List Definition} {whole start : List ℕ} {r : Run} 
   listEq = ap (λ (p : Places). p .list) (h .placesAre)
 
   -- parameter k of the body being read
-  fetchNumberSim : (x : ℕ) (rest : Bytes) → B .rest ≡ x ∷ rest → All Octets (B .list) → (k : ℕ) → k < 10
+  fetchNumberSim : (x : ℕ) (rest : Bytes) → B .rest ≡ x ∷ rest → All Octets (B .list) → (k : ℕ) → k < 36
       → Simulates n older whole start (M.fetchArgument r (argument l (r .source .list + argumentsFrom) k) (lent l o))
       (S.fetchSupplied (limitsOf n (length start)) (ltb k (length (B .list))) (parameter k (B .list)) (S.withBodies (S.withRest rest B ∷ Bs) s))
   fetchNumberSim x rest q oct k small = go (ltb k (length (B .list))) refl
@@ -152,17 +156,17 @@ module _ {n : ℕ} {older : List Definition} {whole start : List ℕ} {r : Run} 
           rw p (refusal free h Outcomes.notSupplied)
 
   -- `~` in a body
-  pub fetchBodySim : Octets (B .rest) → All Octets (B .list)
-      → Simulates n older whole start (M.fetchInBody r (lent l o)) (S.fetchInBody (limitsOf n (length start)) (B .rest) B Bs s)
-  fetchBodySim octets oct = go (B .rest) refl octets
+  pub fetchBodySim : (T : Table) → Octets (B .rest) → All Octets (B .list)
+      → Simulates n older whole start (M.fetchInBody r (lent l o)) (S.fetchInBody (limitsOf n (length start)) (language T) (B .rest) B Bs s)
+  fetchBodySim T octets oct = go (B .rest) refl octets
     where
       byNumber : (x : ℕ) (rest : Bytes) → B .rest ≡ x ∷ rest → (k : ℕ) (j : Option ℕ) → Numbered k j
           → Simulates n older whole start (M.fetchNumber r k (lent l o)) (S.fetchNumber (limitsOf n (length start)) j (B .list) (S.withBodies (S.withRest rest B ∷ Bs) s))
-      byNumber x rest q k j no = refusal free h Outcomes.parameterNotDigit
+      byNumber x rest q k j no = refusal free h Outcomes.fetchesNothing
       byNumber x rest q k j (number m) = rw (ne-eqb k nowhere (λ (y : k ≡ nowhere). absurd (omega arith))) (fetchNumberSim x rest q oct k m)
 
-      go : (bs : Bytes) → B .rest ≡ bs → Octets bs → Simulates n older whole start (M.fetchInBody r (lent l o)) (S.fetchInBody (limitsOf n (length start)) bs B Bs s)
-      go [] q oc = rw (bodyOver h B Bs e q) (refusal free h Outcomes.parameterNotDigit)
+      go : (bs : Bytes) → B .rest ≡ bs → Octets bs → Simulates n older whole start (M.fetchInBody r (lent l o)) (S.fetchInBody (limitsOf n (length start)) (language T) bs B Bs s)
+      go [] q oc = rw (bodyOver h B Bs e q) (refusal free h Outcomes.fetchesNothing)
       go (x ∷ rest) q (with small oc) =
           rw (bodyNext h B Bs e x rest q small, ne-eqb x nowhere (λ (y : x ≡ nowhere). absurd (omega arith)))
           (byNumber x rest q (M.parameterNumber x) (parameterNumber x) (numbered x))

@@ -9,7 +9,7 @@ use lib.Seq.{getD-drop}
 use lib.Dec.{eqb, ltb}
 use borrow.Author.Tests.{lt-ltb, le-ltb, le-leb, lt-leb, ne-eqb, eqb-true}
 use Rattle.language.specs.Outcomes
-use Rattle.language.specs.Signs.{Bytes, Table, plain, dollar, comma, semicolon, tilde, quote, unquote, signOfKind, meaning, outside, inside, closesTo}
+use Rattle.language.specs.Signs.{Bytes, Table, plain, dollar, comma, semicolon, tilde, quote, unquote, signOfKind, meaning, outside, inside, closesTo, language}
 use Rattle.language.specs.BuiltIns.{builtIns, deed}
 use Rattle.language.specs.Matched.{All, with}
 use Rattle.language.specs.Scanning.{State, Step, Call, Body}
@@ -50,7 +50,7 @@ innermostOctets : {B : Body} {Bs : List Body} → All BodyOctets (B ∷ Bs) → 
 innermostOctets (with x h) = x
 
 module _ {n : ℕ} {whole start : List ℕ} {r : Run} {l o : List ℕ} {s : State}
-    (h : Represents n builtIns whole start r (lent l o) s) (oct : HoldsOctets s) where
+    (h : Represents n builtIns whole start r (lent l o) s) (oct : HoldsOctets s) (T : Table) where
   abbrev L : S.Limits
   L = limitsOf n (length start)
 
@@ -81,13 +81,13 @@ module _ {n : ℕ} {whole start : List ℕ} {r : Run} {l o : List ℕ} {s : Stat
           (byBodies builtIns-free h (M.put r x (lent l o)) (M.ends Outcomes.appliesNothing r (lent l o)) (λ Bs. S.applyNone L Bs x s) (λ q. putByte builtIns-free h x) (λ B Bs q. refusal builtIns-free h Outcomes.appliesNothing))
 
   -- `~`
-  fetchSim : (x : ℕ) → Sim (M.fetch r x (lent l o)) (S.fetch L (s .bodies) x s)
+  fetchSim : (x : ℕ) → Sim (M.fetch r x (lent l o)) (S.fetch L (language T) (s .bodies) x s)
   fetchSim x =
-      byBodies builtIns-free h (M.fetchInText r x (lent l o)) (M.fetchInBody r (lent l o)) (λ Bs. S.fetch L Bs x s) (λ e. fetchTextSim builtIns-free h x)
-      (λ B Bs e. let k = innermostOctets (subst (All BodyOctets) e (oct .bodies)) in fetchBodySim builtIns-free h B Bs e (k .rest) (k .list))
+      byBodies builtIns-free h (M.fetchInText r x (lent l o)) (M.fetchInBody r (lent l o)) (λ Bs. S.fetch L (language T) Bs x s) (λ e. fetchTextSim builtIns-free h x)
+      (λ B Bs e. let k = innermostOctets (subst (All BodyOctets) e (oct .bodies)) in fetchBodySim builtIns-free h B Bs e T (k .rest) (k .list))
 
   -- a byte outside of quotes
-  signSim : s .quotes ≡ 0 → (k x : ℕ) → Sim (M.scanSign r k x (lent l o)) (S.byte L (outside (signOfKind k)) x s)
+  signSim : s .quotes ≡ 0 → (k x : ℕ) → Sim (M.scanSign r k x (lent l o)) (S.byte L (language T) (outside (signOfKind k)) x s)
   signSim z k x = go (eqb k 1) (eqb k 2) (eqb k 3) (eqb k 4) (eqb k 5) (eqb k 6)
     where
       same : M.withQuotes 0 r ≡ r
@@ -95,7 +95,7 @@ module _ {n : ℕ} {whole start : List ℕ} {r : Run} {l o : List ℕ} {s : Stat
 
       go : (a b c d e f : Bool)
           → Sim (cond a (M.openCall r (lent l o)) (cond b (M.separate r x (lent l o)) (cond c (M.apply r x (lent l o)) (cond d (M.fetch r x (lent l o)) (cond e (M.goes (M.withQuotes 1 r) (lent l o)) (cond f (M.unquote r x (lent l o)) (M.put r x (lent l o))))))))
-          (S.byte L (outside (cond a dollar (cond b comma (cond c semicolon (cond d tilde (cond e quote (cond f unquote plain))))))) x s)
+          (S.byte L (language T) (outside (cond a dollar (cond b comma (cond c semicolon (cond d tilde (cond e quote (cond f unquote plain))))))) x s)
       go true b c d e f = openSim builtIns-free h
       go false true c d e f = separateSim builtIns-free h x
       go false false true d e f = applySim x
@@ -106,21 +106,21 @@ module _ {n : ℕ} {whole start : List ℕ} {r : Run} {l o : List ℕ} {s : Stat
           subst (λ (u : Run). Sim (M.put u x (lent l o)) (S.put L (x ∷ []) (S.withQuotes 0 s))) same (putByte builtIns-free (quoted h 0) x)
 
   -- a byte inside of quotes
-  quotedSim : (q : ℕ) → s .quotes ≡ suc q → (k x : ℕ) → Sim (M.scanQuoted r k x (lent l o)) (S.byte L (inside q (signOfKind k)) x s)
+  quotedSim : (q : ℕ) → s .quotes ≡ suc q → (k x : ℕ) → Sim (M.scanQuoted r k x (lent l o)) (S.byte L (language T) (inside q (signOfKind k)) x s)
   quotedSim q z k x = rw (h .quotes ∙ z) (opening (eqb k 5) refl)
     where
       Goal : ℕ → Type 0
-      Goal j = Sim (cond (eqb (M.quotesAfter (suc q) j) 0) (M.goes (M.withQuotes 0 r) (lent l o)) (M.put (M.withQuotes (M.quotesAfter (suc q) j) r) x (lent l o))) (S.byte L (inside q (signOfKind j)) x s)
+      Goal j = Sim (cond (eqb (M.quotesAfter (suc q) j) 0) (M.goes (M.withQuotes 0 r) (lent l o)) (M.put (M.withQuotes (M.quotesAfter (suc q) j) r) x (lent l o))) (S.byte L (language T) (inside q (signOfKind j)) x s)
 
       copies : (m : ℕ) → Sim (cond (eqb (suc m) 0) (M.goes (M.withQuotes 0 r) (lent l o)) (M.put (M.withQuotes (suc m) r) x (lent l o))) (S.put L (x ∷ []) (S.withQuotes (suc m) s))
       copies m = rw (ne-eqb (suc m) 0 (λ e. absurd (omega arith))) (putByte builtIns-free (quoted h (suc m)) x)
 
-      closes : (m : ℕ) → Sim (cond (eqb m 0) (M.goes (M.withQuotes 0 r) (lent l o)) (M.put (M.withQuotes m r) x (lent l o))) (S.byte L (closesTo m) x s)
+      closes : (m : ℕ) → Sim (cond (eqb m 0) (M.goes (M.withQuotes 0 r) (lent l o)) (M.put (M.withQuotes m r) x (lent l o))) (S.byte L (language T) (closesTo m) x s)
       closes zero = goes refl (quoted h 0)
       closes (suc m) = copies m
 
       other : (a b c d : Bool) → Sim (cond (eqb (suc q) 0) (M.goes (M.withQuotes 0 r) (lent l o)) (M.put (M.withQuotes (suc q) r) x (lent l o)))
-          (S.byte L (inside q (cond a dollar (cond b comma (cond c semicolon (cond d tilde plain))))) x s)
+          (S.byte L (language T) (inside q (cond a dollar (cond b comma (cond c semicolon (cond d tilde plain))))) x s)
       other true b c d = copies q
       other false true c d = copies q
       other false false true d = copies q
@@ -136,11 +136,11 @@ module _ {n : ℕ} {whole start : List ℕ} {r : Run} {l o : List ℕ} {s : Stat
       opening false e = closing (eqb k 6) e refl
 
   -- a byte that was taken from its source
-  byteSim : (T : Table) (x : ℕ) → Sim (M.scanByte r (getD T x 0) x (lent l o)) (S.byte L (meaning T (s .quotes) x) x s)
+  byteSim : (x : ℕ) → Sim (M.scanByte r (getD T x 0) x (lent l o)) (S.byte L (language T) (meaning T (s .quotes) x) x s)
   unfolding meaning
-  byteSim T x = go (s .quotes) refl
+  byteSim x = go (s .quotes) refl
     where
-      go : (q : ℕ) → s .quotes ≡ q → Sim (M.scanByte r (getD T x 0) x (lent l o)) (S.byte L (meaning T q x) x s)
+      go : (q : ℕ) → s .quotes ≡ q → Sim (M.scanByte r (getD T x 0) x (lent l o)) (S.byte L (language T) (meaning T q x) x s)
       go zero z = rw (le-ltb 0 (r .quotes) (omega (arith, h .quotes))) (signSim z (getD T x 0) x)
       go (suc q) z = rw (lt-ltb 0 (r .quotes) (omega (arith, h .quotes))) (quotedSim q z (getD T x 0) x)
 
@@ -150,7 +150,7 @@ module _ {n : ℕ} {whole start : List ℕ} {r : Run} {l o : List ℕ} {s : Stat
   Goal a t = Simulates n builtIns whole start a t
 
   -- the next byte is one of the text
-  textSim : (t : Bytes) → s .text ≡ t → Goal (M.scanText (M.scanned r) T whole (lent l o)) (S.from (limitsOf n (length start)) T [] t s)
+  textSim : (t : Bytes) → s .text ≡ t → Goal (M.scanText (M.scanned r) T whole (lent l o)) (S.from (limitsOf n (length start)) (language T) [] t s)
   textSim [] e =
       let q : length (drop (r .counts .read) whole) ≡ 0 = ap length (h .ahead ∙ e) in
       rw (le-leb (length whole) (r .counts .read) (omega (arith, length-drop (r .counts .read) whole))) (endTextSim builtIns-free (counted h))
@@ -171,7 +171,7 @@ module _ {n : ℕ} {whole start : List ℕ} {r : Run} {l o : List ℕ} {s : Stat
 
   -- the next byte is one of the innermost body
   bodySim : (B : Body) (Bs : List Body) → s .bodies ≡ B ∷ Bs → (t : Bytes) → B .rest ≡ t
-      → Goal (M.scanBody (M.scanned r) T (lent l o)) (S.fromBody (limitsOf n (length start)) T t B Bs s)
+      → Goal (M.scanBody (M.scanned r) T (lent l o)) (S.fromBody (limitsOf n (length start)) (language T) t B Bs s)
   bodySim B Bs e [] q = rw (bodyOver (counted h) B Bs e q) (endBodySim builtIns-free (counted h) B Bs e)
   bodySim B Bs e (x ∷ t) q =
       let all = subst (All BodyOctets) e (oct .bodies) in
@@ -189,8 +189,8 @@ module _ {n : ℕ} {whole start : List ℕ} {r : Run} {l o : List ℕ} {s : Stat
       }
 
   -- one scan
-  pub stepSim : Goal (M.step r T whole (lent l o)) (S.scan (limitsOf n (length start)) T s)
+  pub stepSim : Goal (M.step r T whole (lent l o)) (S.scan (limitsOf n (length start)) (language T) s)
   unfolding M.step S.scan
   stepSim =
-      byBodies builtIns-free h (M.scanText (M.scanned r) T whole (lent l o)) (M.scanBody (M.scanned r) T (lent l o)) (λ Bs. S.from (limitsOf n (length start)) T Bs (s .text) s)
+      byBodies builtIns-free h (M.scanText (M.scanned r) T whole (lent l o)) (M.scanBody (M.scanned r) T (lent l o)) (λ Bs. S.from (limitsOf n (length start)) (language T) Bs (s .text) s)
       (λ e. textSim (s .text) refl) (λ B Bs e. bodySim B Bs e (B .rest) refl)

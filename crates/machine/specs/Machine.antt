@@ -10,13 +10,14 @@ use lib.Dec.{eqb, leb, ltb}
 use Rattle.memory.specs.Block.{moved, copied, lowBytes}
 use Rattle.language.specs.declared.built_ins.BuiltIn.{BuiltIn}
 use Rattle.language.specs.declared.built_ins.BuiltIn.the-variants.{Def, Val, Update, Arithmetic}
-use Rattle.language.specs.Signs.{cellsLimit}
+use Rattle.language.specs.Signs.{isLetter, cellsLimit}
 use Rattle.language.specs.Outcomes
 use Rattle.language.specs.BuiltIns.{needs}
 use Rattle.language.specs.Charge.{openPrice}
 use Rattle.language.specs.Expansion.{Lent, lent}
 use Rattle.machine.specs.Walks.{nowhere, mark, packed, high, low, cell, headSize, argumentsFrom, listOverhead, nameLength, room, valueLength, withValueLength, withHead, rightBefore, withRightBefore, listLink, returnLink, withLinks, argument, newest, definitions, isRead, builtInNamed, calculate}
 use Rattle.decimal.specs.declared.operations.Answer as Arithmetical
+use Rattle.decimal.specs.Operand.{isDigit}
 use Rattle.machine.specs.declared.operands.Named.{Named}
 use Rattle.machine.specs.declared.operands.Named.the-variants.{Known, Unknown}
 use Rattle.machine.specs.declared.run.Calls.{Calls}
@@ -229,8 +230,9 @@ bodyByte r l =
     let d = r .source .body in
     cond (leb (valueLength l d) (r .source .offset)) nowhere (getD l (d + headSize + nameLength l d + r .source .offset) 0 % 256)
 
+-- the parameter that the byte after `~` stands for, or nowhere
 abbrev pub parameterNumber : ℕ → ℕ
-parameterNumber b = cond (ltb b 48) nowhere (cond (ltb 57 b) nowhere (b - 48))
+parameterNumber b = cond (isLetter b) (b - 97 + 10) (cond (isDigit b) (b - 48) nowhere)
 
 abbrev pub fetchInText : Run → ℕ → Lent → After
 fetchInText r b m = cond (eqb (r .calls .call) nowhere) (write r b m) (ends Outcomes.parameterInText r m)
@@ -242,11 +244,11 @@ fetchArgument r p m =
 
 abbrev pub fetchNumber : Run → ℕ → Lent → After
 fetchNumber r k m =
-    cond (eqb k nowhere) (ends Outcomes.parameterNotDigit r m) (fetchArgument r (argument (m .cells) (r .source .list + argumentsFrom) k) m)
+    cond (eqb k nowhere) (ends Outcomes.fetchesNothing r m) (fetchArgument r (argument (m .cells) (r .source .list + argumentsFrom) k) m)
 
 abbrev pub fetchInBody : Run → Lent → After
 fetchInBody r m =
-    cond (eqb (bodyByte r (m .cells)) nowhere) (ends Outcomes.parameterNotDigit r m) (fetchNumber r (parameterNumber (bodyByte r (m .cells))) m)
+    cond (eqb (bodyByte r (m .cells)) nowhere) (ends Outcomes.fetchesNothing r m) (fetchNumber r (parameterNumber (bodyByte r (m .cells))) m)
 
 abbrev pub fetch : Run → ℕ → Lent → After
 fetch r b m = cond (eqb (r .source .list) nowhere) (fetchInText r b m) (fetchInBody r m)

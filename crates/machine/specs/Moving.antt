@@ -4,7 +4,7 @@ use mathlib.Core.Path.{_≡_}
 use mathlib.Core.Bool.{Bool, true, false, cond}
 use lib.ListN.{length}
 use lib.Dec.{eqb, leb, ltb}
-use Rattle.language.specs.Signs.{Bytes, Table, cellsLimit}
+use Rattle.language.specs.Signs.{Bytes, Table, language, cellsLimit}
 use Rattle.language.specs.BuiltIns.{builtIns}
 use Rattle.language.specs.Octets.{HoldsOctets}
 use Rattle.language.specs.Scanning.{State, Step, next, stop, scans}
@@ -58,7 +58,7 @@ pub record Advances (T : Table) (text : Bytes) (due : ℕ) (r : Run) (m : Lent) 
   pub ranged : st .answer ≡ GoesOn → InRange (length (m .cells)) (length (m .output)) (st .run)
   -- whatever state it holds, it moves as the scanning does
   pub moves : (start : Bytes) (s : State) → Holds text start r m s
-      → Comes text start st m′ (scans (limitsOf (length (m .cells)) (length (m .output))) T due (next s))
+      → Comes text start st m′ (scans (limitsOf (length (m .cells)) (length (m .output))) (language T) due (next s))
 
 -- a standing whose numbers are out of range is refused, and nothing is touched
 pub record Moves (T : Table) (text : Bytes) (allowance : ℕ) (r : Run) (m : Lent) (st : Stepped) (m′ : Lent) : Type 0 where

@@ -127,20 +127,20 @@ impl Run {
         ensures { λ r. ⌜ leaves r (lent (now (cells .exit)) (now (output .exit))) ≡ fetchNumber self number (lent (now (cells .entry)) (now (output .entry))) ⌝ }
     {
         if number == Run::NOWHERE {
-            return self.ends_with(outcomes::PARAMETER_NOT_DIGIT);
+            return self.ends_with(outcomes::FETCHES_NOTHING);
         }
         let position = lookup::argument(cells, self.source.list + layout::ARGUMENTS, number);
         self.fetch_argument(position, cells, output)
     }
 
-    // `~` in a body, with its digit.
+    // `~` in a body, with its digit or letter.
     fn fetch_in_body(self, cells: &mut [u32], output: &mut [u8]) -> Stepped
         requires { ⌜ Sound (length (now cells)) self × (self .counts .written ≤ length (now output)) ⌝ }
         ensures { λ r. ⌜ leaves r (lent (now (cells .exit)) (now (output .exit))) ≡ fetchInBody self (lent (now (cells .entry)) (now (output .entry))) ⌝ }
     {
         let byte = self.body_byte(cells);
         if byte == Run::NOWHERE {
-            return self.ends_with(outcomes::PARAMETER_NOT_DIGIT);
+            return self.ends_with(outcomes::FETCHES_NOTHING);
         }
         self.fetch_number(parameter_number(byte), cells, output)
     }
@@ -262,15 +262,22 @@ impl Run {
     }
 }
 
-// The parameter that the byte after `~` stands for.
+// The parameter that the byte after `~` stands for: 0 to 9 for a digit, 10 to 35 for a letter `a` to `z`. Comparisons in a row
+// keep the compiled scan short.
 fn parameter_number(byte: usize) -> usize
     ensures { λ r. ⌜ (r ≡ parameterNumber byte) × (r ≤ nowhere) ⌝ }
 {
     if byte < 48 {
         return Run::NOWHERE;
     }
-    if byte > 57 {
+    if byte <= 57 {
+        return byte - 48;
+    }
+    if byte < 97 {
         return Run::NOWHERE;
     }
-    byte - 48
+    if byte > 122 {
+        return Run::NOWHERE;
+    }
+    byte - 97 + 10
 }

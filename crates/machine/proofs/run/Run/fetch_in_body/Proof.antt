@@ -1,4 +1,4 @@
--- At the end of the body there is no digit; before it the offset can be raised, since it is below a cell's value.
+-- At the end of the body no byte stands behind `~`; before it the offset can be raised, since it is below a cell's value.
 use Prim.Native.Nat.{_+_}
 use native.Mathlib.Omega.{arith}
 use borrow.Author.Tests.{eq-eqb, ne-eqb}
