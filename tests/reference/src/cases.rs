@@ -1,8 +1,8 @@
-//! Scripts with known ends, worked out by hand from document 01, against both halves.
+//! Scripts with known ends, worked out by hand from document 01 and document 02's request One, against both halves.
 use crate::arithmetic::{reckon, Operation};
 use crate::ends::End;
-use crate::scanning::{run, run_traced, Handled, Lent};
-use crate::signs::{KINDS, LIMIT};
+use crate::scanning::{run, run_reading, run_traced, Handled, Lent};
+use crate::signs::{digit, digit_or_letter, KINDS, LIMIT};
 use crate::substitution::{substitute, Bounds};
 
 const BOUNDS: Bounds = Bounds {
@@ -158,7 +158,7 @@ fn each_fault() {
     check(&[
         ("$DEF,k,<;>;$a,$k;;", "10 17 0 18 18 1", ""),
         ("$~1;", "11 2 0 2 4 0", ""),
-        ("$DEF,k,<~x>;$k;", "12 15 0 16 13 1", ""),
+        ("$DEF,k,<~X>;$k;", "12 15 0 16 13 1", ""),
         ("$DEF,k,<~>;$k;", "12 14 0 15 12 1", ""),
         ("$DEF,k,<~<1>>;$k;", "12 17 0 18 15 1", ""),
         ("$DEF,k,<~1>;$k;", "13 15 0 16 13 1", ""),
@@ -218,16 +218,21 @@ fn order_of_checks_at_the_tilde() {
     // Cells enough up to the `~`, and none for what it fetches.
     check_lent(&[
         ("$a~", 5, 0, "11 3 0 3 5 0"),
-        ("$DEF,k,<~x>;$a,$k;;", 19, 0, "12 18 0 19 19 1"),
+        ("$DEF,k,<~X>;$a,$k;;", 19, 0, "12 18 0 19 19 1"),
         ("$DEF,k,<~1>;$a,$k;;", 19, 0, "13 18 0 19 19 1"),
         ("$DEF,k,<~0>;$a,$k;;", 19, 0, "4 18 0 19 19 1"),
-        ("$DEF,k,<~x>;$k;", 13, 0, "12 15 0 16 13 1"),
+        ("$DEF,k,<~X>;$k;", 13, 0, "12 15 0 16 13 1"),
         ("$DEF,k,<~1>;$k;", 13, 0, "13 15 0 16 13 1"),
         ("$DEF,k,<~0>;$k;", 13, 0, "5 15 0 16 13 1"),
         // A copy goes through whole or not at all.
         ("$DEF,k,<~1>;$k,abc;", 65_536, 2, "5 19 0 20 17 1"),
         ("$DEF,k,<~1>;$k,abc;", 65_536, 3, "0 19 3 22 17 1"),
         ("$DEF,k,<~1>;$a,$k,bcd;;", 25, 0, "4 22 0 23 23 1"),
+        // At a letter, in the same order.
+        ("$DEF,k,<~a>;$a,$k;;", 19, 0, "13 18 0 19 19 1"),
+        ("$DEF,k,<~a>;$a,$k,,,,,,,,,,bcd;;", 34, 0, "4 31 0 32 32 1"),
+        ("$DEF,k,<~a>;$k,,,,,,,,,,abc;", 65_536, 2, "5 28 0 29 26 1"),
+        ("$DEF,k,<~a>;$k,,,,,,,,,,abc;", 65_536, 3, "0 28 3 31 26 1"),
     ]);
 }
 
@@ -307,6 +312,89 @@ fn parameters() {
 }
 
 #[test]
+fn table_of_request_one() {
+    let numbers: Vec<String> = (1..=35).map(|number| number.to_string()).collect();
+    let last = format!("$DEF,k,<~z>;$k,{};", numbers.join(","));
+    check(&[
+        ("$DEF,k,<~a~b>;$k,1,2,3,4,5,6,7,8,9,A,B;", "0 39 2 43 37 1", "AB"),
+        (&last, "0 111 2 114 109 1", "35"),
+        ("$DEF,k,<~a>;$k,1;", "13 17 0 18 15 1", ""),
+        ("$DEF,k,<~A>;$k,1;", "12 17 0 18 15 1", ""),
+        ("$DEF,k,<~{>;$k,1;", "12 17 0 18 15 1", ""),
+        ("$DEF,k,<<~>a>;$k;", "0 17 2 23 15 1", "~a"),
+        ("$DEF,m,<~><a>;$m;", "13 17 0 18 13 1", ""),
+        ("$DEF,m,<<~><a>>;$m;", "0 19 2 27 17 1", "~a"),
+        ("~a", "0 2 2 3 0 0", "~a"),
+    ]);
+}
+
+#[test]
+fn letters_for_parameters_past_nine() {
+    check(&[
+        // Two digits are a digit that fetches and a plain one.
+        ("$DEF,k,<~10>;$k,x;", "0 18 2 22 16 1", "x0"),
+        ("$DEF,k,<~`>;$k;", "12 15 0 16 13 1", ""),
+        ("$DEF,k,<~<a>>;$k;", "12 17 0 18 15 1", ""),
+        ("$k,~a;", "11 4 0 4 6 0", ""),
+    ]);
+    check_outcomes(&[
+        // A letter counts parameters as a digit does: from body commas, in a list begun in the body, unscanned.
+        ("$DEF,l,<1,2,3,4,5,6>;$DEF,k,<~c~b~a>;$k,$l;,$l;;", 0, "654"),
+        ("$DEF,j,<[~1]>;$DEF,k,<$j,~a;>;$k,1,2,3,4,5,6,7,8,9,A,B;", 0, "[A]"),
+        ("$DEF,k,<~a>;$k,1,2,3,4,5,6,7,8,9,<~b,$j;>;", 0, "~b,$j;"),
+        ("$DEF,k,<~a>;$k,1,2,3,4,5,6,7,8,9,;", 0, ""),
+        ("$DEF,k,<~b>;$k,1,2,3,4,5,6,7,8,9,A;", 13, ""),
+    ]);
+}
+
+#[test]
+fn bytes_that_fetch() {
+    let fetching: Vec<u8> = (0..=255).filter(|&byte| digit_or_letter(byte).is_some()).collect();
+    assert_eq!(text(&fetching), "0123456789abcdefghijklmnopqrstuvwxyz");
+    let numbers: Vec<usize> = fetching.iter().filter_map(|&byte| digit_or_letter(byte)).collect();
+    assert_eq!(numbers, (0..36).collect::<Vec<usize>>());
+}
+
+/// Every way to put four of these pieces together.
+fn four_pieces() -> impl Iterator<Item = String> {
+    const PIECES: [&str; 9] = ["~", "1", "a", "x", "<", ">", ",", ";", "$k"];
+    let more = |pieces: String| PIECES.iter().map(move |piece| format!("{pieces}{piece}"));
+    more(String::new()).flat_map(more).flat_map(more).flat_map(more)
+}
+
+/// Whether a script expands as before request One. It does unless a body shows an unquoted `~` before a letter; then it
+/// was refused with 12 at the first such place.
+fn expands_as_before(script: &str) -> bool {
+    let lent = Lent {
+        cells: 300,
+        output: 300,
+        allowance: 500,
+    };
+    let mut first = None;
+    let now = run_traced(script.as_bytes(), &lent, &mut |row| {
+        if matches!(row.handled, Handled::Parameter(b'a'..=b'z')) {
+            first.get_or_insert(row.scan());
+        }
+    });
+    let before = run_reading(script.as_bytes(), &lent, digit);
+    match first {
+        None => assert_eq!(before, now, "{script}"),
+        Some(scan) => assert_eq!((before.report.outcome, before.report.scans), (12, scan), "{script}"),
+    }
+    first.is_none()
+}
+
+/// "Scripts in whose expansion no body shows an unquoted `~` before such a letter expand as before".
+#[test]
+fn scripts_without_letters_expand_as_before() {
+    let in_body = |pieces: String| expands_as_before(&format!("$DEF,k,<{pieces}>;$k,1,2,3,4,5,6,7,8,9,A;"));
+    let in_text = |pieces: String| expands_as_before(&format!("$DEF,k,<~1>;{pieces}"));
+    let with_letters = four_pieces().map(in_body).filter(|as_before| !as_before).count();
+    assert!(with_letters > 200, "{with_letters}");
+    assert!(four_pieces().all(in_text));
+}
+
+#[test]
 fn definitions_go_with_the_list() {
     check(&[
         // Made in an argument, in DEF's own list, in VAL's and in UPDATE's.
@@ -358,7 +446,7 @@ fn updates() {
 /// The charge after each scan.
 fn charges(script: &str) -> Vec<usize> {
     let mut charges = Vec::new();
-    run_traced(script.as_bytes(), &Lent::PROGRAM, &mut |row| charges.push(row.charge));
+    run_traced(script.as_bytes(), &Lent::PROGRAM, &mut |row| charges.push(row.charge()));
     charges
 }
 
@@ -443,7 +531,7 @@ fn traced_run_is_the_run() {
     let script = "$DEF,k,<p~1>;$k,7;".as_bytes();
     let mut rows = Vec::new();
     let end = run_traced(script, &Lent::PROGRAM, &mut |row| {
-        rows.push((row.scan, row.handled, row.output.clone()))
+        rows.push((row.scan(), row.handled, row.output().to_vec()))
     });
     assert_eq!(end, run(script, &Lent::PROGRAM));
     assert_eq!(rows.len(), 22);
@@ -452,6 +540,35 @@ fn traced_run_is_the_run() {
     assert_eq!(rows[19], (20, Handled::Parameter(b'1'), b"p7".to_vec()));
     assert_eq!(rows[20], (21, Handled::EndOfBody, b"p7".to_vec()));
     assert_eq!(rows[21], (22, Handled::EndOfText, b"p7".to_vec()));
+}
+
+/// What the last scan of a script handled, and the parameter that it was to fetch.
+fn last_handled(script: &str) -> Option<(Handled, Option<Vec<u8>>)> {
+    let mut last = None;
+    run_traced(script.as_bytes(), &Lent::PROGRAM, &mut |row| {
+        if row.ended {
+            last = Some((row.handled, row.parameter().map(<[u8]>::to_vec)));
+        }
+    });
+    last
+}
+
+#[test]
+fn trace_tells_what_the_tilde_comes_to() {
+    let cases = [
+        ("$DEF,k,<~a>;$k;", Handled::Parameter(b'a')),
+        ("$DEF,k,<~{>;$k;", Handled::FetchesNothing(Some(b'{'))),
+        ("$DEF,k,<~,>;$k;", Handled::FetchesNothing(Some(b','))),
+        ("$DEF,k,<~>;$k;", Handled::FetchesNothing(None)),
+        ("$k~", Handled::Byte(b'~')),
+    ];
+    for (script, handled) in cases {
+        assert_eq!(last_handled(script), Some((handled, None)), "{script}");
+    }
+    // Supplied, but too long for what is lent.
+    let script = format!("$DEF,k,<$j~a>;$k,,,,,,,,,,{};", "x".repeat(9_000));
+    let fetched = (Handled::Parameter(b'a'), Some(vec![b'x'; 9_000]));
+    assert_eq!(last_handled(&script), Some(fetched));
 }
 
 #[test]

@@ -114,19 +114,20 @@ fn trace() -> io::Result<()> {
 fn table_row(row: &Row) -> String {
     let handled = match row.handled {
         Handled::Byte(byte) => span(&[byte]),
-        Handled::Parameter(digit) => span(&[b'~', digit]),
+        Handled::Parameter(byte) => span(&[b'~', byte]),
+        Handled::FetchesNothing(_) => span(b"~"),
         end => end.to_string(),
     };
-    let calls: Vec<String> = row.calls.iter().map(|call| span(call)).collect();
-    let body = |(name, rest): &(Vec<u8>, Vec<u8>)| span(&[name, &b":"[..], rest].concat());
-    let bodies: Vec<String> = row.bodies.iter().map(body).collect();
+    let calls: Vec<String> = row.calls().iter().map(|call| span(call)).collect();
+    let body = |&(name, rest): &(&[u8], &[u8])| span(&[name, b":", rest].concat());
+    let bodies: Vec<String> = row.bodies().iter().map(body).collect();
     let cells = [
-        row.scan.to_string(),
+        row.scan().to_string(),
         handled,
         calls.join(" "),
         bodies.join(" "),
-        span(&row.output),
-        row.charge.to_string(),
+        span(row.output()),
+        row.charge().to_string(),
     ];
     format!("| {} |", cells.join(" | "))
 }

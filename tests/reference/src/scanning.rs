@@ -2,7 +2,7 @@
 //! Its lists grow as they please; the charge is summed anew from them whenever it is needed.
 use crate::arithmetic::{self, Operation};
 use crate::ends::{End, Report, Standing};
-use crate::signs::{self, BuiltIn};
+use crate::signs::{self, BuiltIn, Reading};
 use std::fmt;
 use std::rc::Rc;
 
@@ -25,37 +25,37 @@ impl Lent {
 
 /// A run with these lent, to its end.
 pub fn run(text: &[u8], lent: &Lent) -> End {
-    to_the_end(text, lent, |machine| machine.scan())
+    run_reading(text, lent, signs::digit_or_letter)
 }
 
-/// The same run; `each` is shown how it stands after each scan, a refused one included.
+/// The run in which `~` fetches by this reading.
+pub fn run_reading(text: &[u8], lent: &Lent, reading: Reading) -> End {
+    to_the_end(Machine::fresh(text, lent, reading), |machine| machine.scan())
+}
+
+/// The run of `run`; `each` is shown how it stands after each scan, a refused one included.
 pub fn run_traced(text: &[u8], lent: &Lent, each: &mut dyn FnMut(&Row)) -> End {
-    to_the_end(text, lent, |machine| {
+    to_the_end(Machine::fresh(text, lent, signs::digit_or_letter), |machine| {
         let handled = machine.due();
         let scanned = machine.scan();
-        each(&machine.row(handled));
+        let ended = scanned.is_err();
+        each(&Row {
+            machine,
+            handled,
+            ended,
+        });
         scanned
     })
-}
-
-/// How a run stands after a scan.
-#[derive(Clone, Debug)]
-pub struct Row {
-    pub scan: u64,
-    pub handled: Handled,
-    /// The calls being collected, outermost first, each as it would be written.
-    pub calls: Vec<Vec<u8>>,
-    /// The bodies being read, outermost first: the name of the call and what remains to be read.
-    pub bodies: Vec<(Vec<u8>, Vec<u8>)>,
-    pub output: Vec<u8>,
-    pub charge: usize,
 }
 
 /// "It handles one byte, a `~` with its digit in a body, the end of a body, or the end of the text."
 #[derive(Clone, Copy, Debug, PartialEq, Eq)]
 pub enum Handled {
     Byte(u8),
+    /// A `~` in a body with its digit or letter.
     Parameter(u8),
+    /// A `~` in a body, where the next byte is neither digit nor letter `a` to `z`, or the body ends: outcome 12.
+    FetchesNothing(Option<u8>),
     EndOfBody,
     EndOfText,
 }
@@ -64,7 +64,8 @@ impl fmt::Display for Handled {
     fn fmt(&self, to: &mut fmt::Formatter) -> fmt::Result {
         match *self {
             Handled::Byte(byte) => write!(to, "{}", char::from(byte)),
-            Handled::Parameter(digit) => write!(to, "~{}", char::from(digit)),
+            Handled::Parameter(byte) => write!(to, "~{}", char::from(byte)),
+            Handled::FetchesNothing(_) => to.write_str("~"),
             Handled::EndOfBody => to.write_str("end of body"),
             Handled::EndOfText => to.write_str("end of text"),
         }
@@ -74,9 +75,8 @@ impl fmt::Display for Handled {
 /// A scan gives the next standing, or the outcome that ends the run.
 type Scanned = Result<(), u64>;
 
-fn to_the_end(text: &[u8], lent: &Lent, mut one_scan: impl FnMut(&mut Machine) -> Scanned) -> End {
-    let mut machine = Machine::fresh(text, lent);
-    if [text.len(), lent.cells, lent.output]
+fn to_the_end(mut machine: Machine, mut one_scan: impl FnMut(&mut Machine) -> Scanned) -> End {
+    if [machine.text.len(), machine.lent.cells, machine.lent.output]
         .iter()
         .any(|&length| length > signs::LIMIT)
     {
@@ -84,7 +84,7 @@ fn to_the_end(text: &[u8], lent: &Lent, mut one_scan: impl FnMut(&mut Machine) -
     }
     loop {
         // 3: "a further scan is due and the allowance has been used".
-        if machine.scans == lent.allowance {
+        if machine.scans == machine.lent.allowance {
             return machine.end(3);
         }
         if let Err(outcome) = one_scan(&mut machine) {
@@ -117,9 +117,17 @@ struct Body {
     at: usize,
 }
 
+impl Body {
+    fn name_and_rest(&self) -> (&[u8], &[u8]) {
+        let name = self.call.item(0).expect("a name");
+        (name, &self.bytes[self.at..])
+    }
+}
+
 struct Machine<'a> {
     text: &'a [u8],
     lent: &'a Lent,
+    reading: Reading,
     read: usize,
     /// How deep the byte at hand lies in quotes. One count serves text and bodies: inside quotes only quotes are
     /// recognised, so no body begins there, and a body never ends inside quotes.
@@ -160,10 +168,11 @@ impl Definition {
 }
 
 impl<'a> Machine<'a> {
-    fn fresh(text: &'a [u8], lent: &'a Lent) -> Self {
+    fn fresh(text: &'a [u8], lent: &'a Lent, reading: Reading) -> Self {
         Machine {
             text,
             lent,
+            reading,
             read: 0,
             quotes: 0,
             calls: Vec::new(),
@@ -277,14 +286,10 @@ impl<'a> Machine<'a> {
                 Err(11)
             };
         };
-        let digit = body
-            .bytes
-            .get(body.at)
-            .copied()
-            .filter(u8::is_ascii_digit)
-            .ok_or(12u64)?;
+        let next = body.bytes.get(body.at).copied();
+        let number = next.and_then(self.reading).ok_or(12u64)?;
         body.at += 1;
-        let parameter = body.call.item(usize::from(digit - b'0')).ok_or(13u64)?.to_vec();
+        let parameter = body.call.item(number).ok_or(13u64)?.to_vec();
         self.copy(&parameter)
     }
 
@@ -529,29 +534,57 @@ impl Machine<'_> {
         };
         match body.bytes[body.at..] {
             [] => Handled::EndOfBody,
-            [byte, digit, ..] if self.quotes == 0 && signs::kind(byte) == signs::FETCH && digit.is_ascii_digit() => {
-                Handled::Parameter(digit)
+            [byte, ref rest @ ..] if self.quotes == 0 && signs::kind(byte) == signs::FETCH => {
+                let next = rest.first().copied();
+                next.filter(|&next| (self.reading)(next).is_some())
+                    .map_or(Handled::FetchesNothing(next), Handled::Parameter)
             }
             [byte, ..] => Handled::Byte(byte),
         }
     }
+}
 
-    fn row(&self, handled: Handled) -> Row {
+/// How a run stands after a scan.
+pub struct Row<'a> {
+    machine: &'a Machine<'a>,
+    pub handled: Handled,
+    /// Whether the run ended with this scan.
+    pub ended: bool,
+}
+
+impl Row<'_> {
+    pub fn scan(&self) -> u64 {
+        self.machine.scans
+    }
+
+    /// The calls being collected, outermost first, each as it would be written.
+    pub fn calls(&self) -> Vec<Vec<u8>> {
         let written = |call: &Call| {
             let items: Vec<&[u8]> = (0..).map_while(|number| call.item(number)).collect();
             [b"$", items.join(&b","[..]).as_slice()].concat()
         };
-        let body = |body: &Body| {
-            let name = body.call.item(0).expect("a name");
-            (name.to_vec(), body.bytes[body.at..].to_vec())
+        self.machine.calls.iter().map(written).collect()
+    }
+
+    /// The bodies being read, outermost first: the name of the call and what remains to be read.
+    pub fn bodies(&self) -> Vec<(&[u8], &[u8])> {
+        self.machine.bodies.iter().map(Body::name_and_rest).collect()
+    }
+
+    /// The parameter that was to be fetched; none where it was not supplied, or the scan handled something else.
+    pub fn parameter(&self) -> Option<&[u8]> {
+        let Handled::Parameter(byte) = self.handled else {
+            return None;
         };
-        Row {
-            scan: self.scans,
-            handled,
-            calls: self.calls.iter().map(written).collect(),
-            bodies: self.bodies.iter().map(body).collect(),
-            output: self.output.clone(),
-            charge: self.charge(),
-        }
+        let number = (self.machine.reading)(byte)?;
+        self.machine.bodies.last()?.call.item(number)
+    }
+
+    pub fn output(&self) -> &[u8] {
+        &self.machine.output
+    }
+
+    pub fn charge(&self) -> usize {
+        self.machine.charge()
     }
 }

@@ -1,4 +1,5 @@
-//! Document 01's "Bytes and signs": the kind of each byte, the built-in names and the limit.
+//! Document 01's "Bytes and signs": the kind of each byte, the built-in names and the limit; and which bytes fetch
+//! parameters.
 use crate::arithmetic::Operation;
 
 /// Text, cells and output may each be lent up to this length.
@@ -34,6 +35,22 @@ const fn kinds() -> [u8; 256] {
 
 pub fn kind(byte: u8) -> u8 {
     KINDS[byte as usize]
+}
+
+/// The number of the parameter that `~` fetches in a body, by the byte after it; none for a byte that fetches nothing.
+pub type Reading = fn(u8) -> Option<usize>;
+
+/// "`~r` in a body copies parameter r (0 is the name)", by a digit alone: the reading before document 02's request One.
+pub fn digit(byte: u8) -> Option<usize> {
+    byte.is_ascii_digit().then(|| usize::from(byte - b'0'))
+}
+
+/// Document 02: "After `~` in a body, a lower-case letter `a` to `z` fetches parameters 10 to 35."
+pub fn digit_or_letter(byte: u8) -> Option<usize> {
+    match byte {
+        b'a'..=b'z' => Some(10 + usize::from(byte - b'a')),
+        _ => digit(byte),
+    }
 }
 
 #[derive(Clone, Copy, Debug, PartialEq, Eq)]

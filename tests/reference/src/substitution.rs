@@ -208,14 +208,15 @@ impl Handed<'_> {
         }
     }
 
-    /// "`~r` is the parameter", and one scan with its digit. Checks: 12, 13.
+    /// "`~r` is the parameter", and one scan with its digit or letter. Checks: 12, 13.
     fn parameter(&mut self, from: &mut Stretch, known: Known, pieces: &mut Pieces) -> Result<(), Stop> {
         let parameters = known.body.map_or(&[][..], |body| body.parameters);
-        let Some(digit @ b'0'..=b'9') = from.bytes.get(from.at) else {
+        let next = from.bytes.get(from.at).copied();
+        let Some(number) = next.and_then(signs::digit_or_letter) else {
             return fault(12);
         };
         from.at += 1;
-        match parameters.get(usize::from(digit - b'0')) {
+        match parameters.get(number) {
             Some(parameter) => self.add(parameter, known, pieces),
             None => fault(13),
         }

@@ -35,10 +35,15 @@ impl Grower {
         }
     }
 
+    /// Of many arguments most are words, so that scripts do not grow long by them.
     fn arguments(&mut self, place: Place, count: usize) {
         for _ in 0..count {
             self.put(",");
-            self.argument(place);
+            if count > 9 && !self.random.one_in(8) {
+                self.word(place.argument());
+            } else {
+                self.argument(place);
+            }
         }
     }
 

@@ -1,20 +1,27 @@
 //! One check: the library's run of a script against both definitions.
+use crate::fetching::{self, Ways};
 use crate::lending;
 use crate::library;
 use crate::memory::Memory;
 use reference::ends::{End, Report};
 use reference::scanning::{self, Lent};
 
-/// What a script's run is lent, and how it ends by scanning.
+/// What a script's run is lent, and how it ends by scanning, with the ways that `~` went.
 pub struct Run {
     pub lent: Lent,
     pub scanned: End,
+    pub ways: Ways,
 }
 
 impl Run {
     pub fn new(text: &[u8], lent: Lent) -> Run {
-        let scanned = scanning::run(text, &lent);
-        Run { lent, scanned }
+        let mut ways = Ways::default();
+        let scanned = scanning::run_traced(text, &lent, &mut |row| {
+            if let Some(way) = fetching::way(row) {
+                ways[way] = true;
+            }
+        });
+        Run { lent, scanned, ways }
     }
 }
 

@@ -1,6 +1,7 @@
 //! DEF, VAL and UPDATE, of values in every form.
 use crate::built_ins;
 use crate::grower::{Grower, Known, Place, NAMES};
+use crate::letters;
 use crate::numbers;
 
 impl Grower {
@@ -26,10 +27,10 @@ impl Grower {
         self.put("$DEF,");
         self.name(name, place);
         self.put(",");
-        let needs = if self.random.one_in(60) {
-            9
-        } else {
-            *self.random.pick(&[&0, &0, &1, &1, &1, &2, &2, &3])
+        let needs = match self.random.below(60) {
+            0 => 9,
+            1 => letters::many(&mut self.random),
+            _ => *self.random.pick(&[&0, &0, &1, &1, &1, &2, &2, &3]),
         };
         let (before, mark) = (self.text.len(), self.known.len());
         let body = self.defined_value(name, needs, place);

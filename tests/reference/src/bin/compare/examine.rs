@@ -29,8 +29,9 @@ pub fn runs(text: &[u8], random: &mut Random) -> Vec<Run> {
 pub fn examine(memory: &mut Memory, text: &[u8], runs: Vec<Run>, tally: &mut Tally) -> Result<(), Box<Difference>> {
     let substituted = substitute(text, &lending::bounds(runs.iter().map(|run| run.lent)));
     for (place, run) in runs.into_iter().enumerate() {
+        let ways = run.ways;
         let report = check(memory, text, run, &substituted)?;
-        tally.count(&report, place == 0);
+        tally.count(&report, &ways, place == 0);
     }
     Ok(())
 }

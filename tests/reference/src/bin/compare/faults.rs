@@ -1,11 +1,12 @@
 //! Pieces of script that end a run at a chosen outcome, where they are reached.
 use crate::built_ins;
 use crate::grower::Place;
+use crate::letters;
 use crate::numbers;
 use crate::random::Random;
 
-/// The outcomes that a planted piece leads to.
-pub const PLANTED: [u64; 16] = [1, 10, 11, 12, 13, 14, 15, 16, 17, 18, 19, 20, 21, 22, 23, 24];
+/// The outcomes that a planted piece leads to. 12 and 13 have more pieces than the others, and stand here twice.
+pub const PLANTED: [u64; 18] = [1, 10, 11, 12, 12, 13, 13, 14, 15, 16, 17, 18, 19, 20, 21, 22, 23, 24];
 
 /// A piece for a fault of the text, or for the end at a bare `>`.
 pub fn planted(outcome: u64, place: Place, random: &mut Random) -> Vec<u8> {
@@ -43,7 +44,7 @@ fn text(piece: &str) -> Vec<u8> {
 fn in_some_body(outcome: u64, in_body: bool, random: &mut Random) -> Vec<u8> {
     let piece = match outcome {
         10 => random.pick(&["x;", ";", "$DEF,m,z;;", "<;>;"]),
-        12 => random.pick(&["~", "~x", "~~1", "~<1>", "~,", "~;", "~/", "~:", "$a,~-1;"]),
+        12 => fetches_nothing(random),
         _ => random.pick(&["$", "$j", "$a,b", "$DEF,a,<x;>", "$k,$VAL,a"]),
     };
     if in_body {
@@ -53,6 +54,20 @@ fn in_some_body(outcome: u64, in_body: bool, random: &mut Random) -> Vec<u8> {
     format!("$DEF,z,<{piece}>;{call}").into_bytes()
 }
 
+/// A `~` at the end of a body, or before a byte that is neither digit nor letter `a` to `z`: signs, and the bytes just
+/// beside those that fetch, the neighbours of the letters more often.
+fn fetches_nothing(random: &mut Random) -> &'static str {
+    const BEFORE_A_BYTE: [&str; 22] = [
+        "~`", "~`", "~`", "~{", "~{", "~{", "~/", "~:", "~A", "~Z", "~@", "~[", "~,", "~;", "~$a;", "~<1>", "~<a>",
+        "~~1", "~~a", "$a,~-1;", "~\0", "~é",
+    ];
+    if random.one_in(3) {
+        "~"
+    } else {
+        random.pick(&BEFORE_A_BYTE)
+    }
+}
+
 fn missing(in_body: bool, random: &mut Random) -> Vec<u8> {
     let piece = random.pick(&[
         "$DEF,z,<~2>;$z,1;",
@@ -60,9 +75,10 @@ fn missing(in_body: bool, random: &mut Random) -> Vec<u8> {
         "$DEF,z,<~9>;$z,1,2,3,4,5,6,7,8;",
     ]);
     let built_in = random.pick(&built_ins::ALL);
-    match random.below(4) {
-        _ if in_body => text("~9"),
+    match random.below(6) {
+        _ if in_body => text(random.pick(&["~9", "~a", "~z"])),
         0 => text(piece),
+        4..=5 => letters::one_short(random),
         1 if built_in != "VAL" => format!("${built_in},1;").into_bytes(),
         2 => format!("${built_in}<>;").into_bytes(),
         _ => format!("${built_in};").into_bytes(),

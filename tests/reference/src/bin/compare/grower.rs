@@ -1,6 +1,7 @@
 //! Well-formed scripts, grown item by item. The grower remembers which definitions stand where it writes, so that most
 //! calls find one, with the parameters that its body fetches.
 use crate::faults;
+use crate::letters;
 use crate::numbers;
 use crate::random::Random;
 use crate::recursion;
@@ -64,7 +65,7 @@ pub struct Known {
 type Weights = [usize; 3];
 type Item = fn(&mut Grower, Place);
 
-const ITEMS: [(Weights, Item); 19] = [
+const ITEMS: [(Weights, Item); 20] = [
     ([100, 150, 120], Grower::word),
     ([160, 60, 60], Grower::definition),
     ([260, 150, 220], Grower::call),
@@ -79,6 +80,7 @@ const ITEMS: [(Weights, Item); 19] = [
     ([15, 10, 30], Grower::comma),
     ([10, 0, 0], Grower::semicolon),
     ([4, 4, 4], Grower::any_byte),
+    ([10, 3, 3], letters::macro_of_many),
     ([16, 4, 4], recursion::conditional),
     ([10, 10, 20], recursion::choice),
     ([8, 2, 2], recursion::countdown),
@@ -183,18 +185,21 @@ impl Grower {
                 let which = if self.random.one_in(10) {
                     0
                 } else {
-                    self.random.between(1, parameters.max(1))
+                    letters::one_of(parameters, &mut self.random)
                 };
-                self.put(&format!("~{}", which.min(parameters)));
+                self.put(&format!("~{}", letters::digit_or_letter(which.min(parameters))));
             }
             None if place.collecting => self.word(place),
-            None => self.put("~1"),
+            None => {
+                let plain = self.random.pick(&["~1", "~a"]);
+                self.put(plain);
+            }
         }
     }
 
     /// Quotes up to three deep, around any signs.
     fn quoted(&mut self, place: Place) {
-        const PIECES: [&str; 9] = ["$", ",", ";", "~", "~1", "$a;", "x", "$DEF,", "<>"];
+        const PIECES: [&str; 10] = ["$", ",", ";", "~", "~1", "~a", "$a;", "x", "$DEF,", "<>"];
         self.put("<");
         for _ in 0..self.random.below(4) {
             if place.depth < 8 && self.random.one_in(3) {

@@ -1,9 +1,9 @@
 //! Scripts that nobody would write: raw bytes, loose tokens, and well-formed scripts edited at random or cut.
 use crate::random::Random;
 
-const TOKENS: [&str; 28] = [
+const TOKENS: [&str; 30] = [
     "$DEF,", "$DEF,a,<", "$DEF,b,", "$a", "$b;", "$a,", "$VAL,a;", "$UPDATE,", "$+,1,", "$Rem,", "a", "b", "x", "1",
-    "-7", ",", ",", ";", ";", ";", "~1", "~0", "~2", "~", "<", ">", ">;", "$",
+    "-7", ",", ",", ";", ";", ";", "~1", "~0", "~2", "~a", "~z", "~", "<", ">", ">;", "$",
 ];
 
 fn plain_or_sign(random: &mut Random) -> u8 {
