@@ -30,7 +30,7 @@ static const char *in_words(uint64_t outcome)
     case GPM_NO_OUTPUT_LEFT: return "no room left for output";
     case GPM_APPLIES_NOTHING: return "a ; in a body applies no call begun in that body";
     case GPM_PARAMETER_IN_TEXT: return "a ~ in the text while a call is collected";
-    case GPM_PARAMETER_NOT_DIGIT: return "no digit after ~ in a body";
+    case GPM_FETCHES_NOTHING: return "no digit or letter a to z after ~ in a body";
     case GPM_NOT_SUPPLIED: return "a parameter was not supplied";
     case GPM_BODY_IN_CALL: return "a body ended inside a call begun in it";
     case GPM_NOT_DEFINED: return "a name is not defined";
