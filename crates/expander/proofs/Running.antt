@@ -4,13 +4,14 @@ use native.Mathlib.Omega.{arith}
 use mathlib.Core.Path.{_≡_, refl, sym, ap, subst, _∙_}
 use mathlib.Core.Bool.{Bool, true, false, true≢false, cond, _||_}
 use mathlib.Core.List.{List, [], _∷_, _++_}
-use mathlib.Core.Option.{none}
+use mathlib.Core.Option.{none, some}
 use lib.ListN.{length, drop}
 use lib.Dec.{eqb, leb, ltb}
 use borrow.Author.Tests.{ltb-false}
 use Rattle.memory.specs.Block.{zeros}
 use Rattle.language.specs.Signs.{Bytes, Table, language, textLimit, cellsLimit, outputLimit}
 use Rattle.language.specs.Outcomes
+use Rattle.language.specs.Refusals.{refusedBy, sizesTooLarge, AcceptedTable}
 use Rattle.language.specs.Definitions.{Definition, live}
 use Rattle.language.specs.BuiltIns.{builtIns}
 use Rattle.language.specs.Charge.{definitionsPrice}
@@ -18,8 +19,9 @@ use Rattle.language.specs.Ends.{End, reported}
 use Rattle.language.specs.Octets.{Octets}
 use Rattle.language.specs.Scanning.{Standing, Step, next, stop, endWith}
 use Rattle.language.specs.Scanning as S
-use Rattle.language.specs.Expansion.{Lent, lent, Given, Returned, tooLarge, refusals, refusedBy, cleared, overwritten, limitsOf, ending, expanded}
+use Rattle.language.specs.Expansion.{Lent, lent, Given, Returned, refusals, cleared, overwritten, limitsOf, ending, expanded}
 use Rattle.language.specs.Demand.{Demand3, Substitutes, Expanded}
+use Rattle.language.proofs.Accepted.{lent-accepted, accepted-exactly}
 use Rattle.language.proofs.Octets.{octets-start, built-ins-octets}
 use Rattle.language.proofs.Demand.{builtIns-free, demand3, substitutes}
 use Rattle.machine.specs.declared.run.Stepped.{Stepped}
@@ -102,6 +104,10 @@ heldLive (suc turns) l p list = go (leb (length l) p) (eqb p list) (heldLive tur
     go false true h = h
     go false false h = omega (arith, h)
 
+-- the built-ins can always be afforded
+free : (g : Given) → g .definitions ≡ builtIns → definitionsPrice (g .definitions) ≤ length (g .lent .cells)
+free g from = omega (arith, ap definitionsPrice from, builtIns-free)
+
 -- a run that shows the standing of its end has come to it
 module _ (g : Given) (st : Stepped) (m : Lent) (from : g .definitions ≡ builtIns) (outcome : outcomeOf (st .answer) ≡ ending g .outcome)
     (h : Shows builtIns (g .lent .output) (st .run) m (standingOf (ending g))) where
@@ -118,13 +124,10 @@ module _ (g : Given) (st : Stepped) (m : Lent) (from : g .definitions ≡ builtI
       let w = h .standing in
       rw (outcome, h .wrote .written, ap (λ (x : Standing). x .read) w, ap (λ (x : Standing). x .scans) w, ap (λ (x : Standing). x .most) w, alive) refl
 
-  free : definitionsPrice (g .definitions) ≤ length (g .lent .cells)
-  free = omega (arith, ap definitionsPrice from, builtIns-free)
-
   ranTo : Ran g st m
   ranTo = record {
     scanned = came;
-    substitutes = subst (Demand3 g) (sym came) (demand3 g free);
+    substitutes = subst (Demand3 g) (sym came) (demand3 g (free g from));
     reports = counted ∙ ap reported (sym came);
     left = subst (λ (x : End). m .output ≡ overwritten (x .output) (g .lent .output)) (sym came) (h .wrote .output);
   }
@@ -153,38 +156,43 @@ unfolding zeros cleared
 clearedIs [] = refl
 clearedIs (x ∷ l) = ap (λ (y : List ℕ). 0 ∷ y) (clearedIs l)
 
--- what fits is not refused
-notRefused : (g : Given) → tooLarge g ≡ false → refusedBy refusals g ≡ none
-unfolding refusedBy
-notRefused g e = rw e
-
-pub reports : (g : Given) {st : Stepped} {m : Lent} → Ran g st m → length (m .cells) ≡ length (g .lent .cells) → tooLarge g ≡ false
+pub reports : (g : Given) {st : Stepped} {m : Lent} → Ran g st m → length (m .cells) ≡ length (g .lent .cells) → refusedBy (refusals g) ≡ none
     → returned (reportOf st) (lent (zeros (length (m .cells))) (m .output)) ≡ expanded g
 unfolding expanded
-reports g {st} {m} h size fits =
+reports g {st} {m} h size accepted =
     let zeroed : zeros (length (m .cells)) ≡ cleared (g .lent .cells) = ap zeros size ∙ clearedIs (g .lent .cells) in
     let told : numbers (reportOf st) ≡ reported (ending g) = h .reports ∙ ap reported (h .scanned) in
     let left : m .output ≡ overwritten (ending g .output) (g .lent .output) = h .left ∙ ap (λ (x : End). overwritten (x .output) (g .lent .output)) (h .scanned) in
-    rw (notRefused g fits, told, left, zeroed) refl
+    rw (accepted, told, left, zeroed) refl
 
--- "2: text, cells or output lent over 65,536 long": nothing is touched
-pub refuses : (g : Given) → tooLarge g ≡ true → returned (refusedWith Outcomes.tooLarge) (g .lent) ≡ expanded g
-unfolding expanded refusedBy
-refuses g large = rw large refl
+-- a call that is refused: nothing is touched
+pub refuses : (g : Given) (outcome : ℕ) → refusedBy (refusals g) ≡ some outcome → returned (refusedWith outcome) (g .lent) ≡ expanded g
+unfolding expanded
+refuses g outcome refused = rw refused refl
 
--- what is not too large has few enough cells
-pub cellsFit : (g : Given) → tooLarge g ≡ false → length (g .lent .cells) ≤ cellsLimit
-cellsFit g fits =
-    go (ltb textLimit (length (g .text))) (ltb cellsLimit (length (g .lent .cells))) (ltb outputLimit (length (g .lent .output))) refl fits
-  where
-    go : (t c o : Bool) → ltb cellsLimit (length (g .lent .cells)) ≡ c → (t || (c || o)) ≡ false → length (g .lent .cells) ≤ cellsLimit
-    go false false o e h = ltb-false cellsLimit (length (g .lent .cells)) e
-    go true c o e h = absurd (true≢false h)
-    go false true o e h = absurd (true≢false h)
+-- as where a size is too large
+pub large : (g : Given) → sizesTooLarge (length (g .text)) (length (g .lent .cells)) (length (g .lent .output)) ≡ true
+    → returned (refusedWith Outcomes.tooLarge) (g .lent) ≡ expanded g
+unfolding refusedBy
+large g tooLarge = refuses g Outcomes.tooLarge (rw tooLarge refl)
+
+-- what is not refused has few enough cells, and 256 signs
+module _ (g : Given) (accepted : refusedBy (refusals g) ≡ none) where
+  fits : (sizesTooLarge (length (g .text)) (length (g .lent .cells)) (length (g .lent .output)) ≡ false) × AcceptedTable (g .table)
+  fits = lent-accepted (length (g .text)) (length (g .lent .cells)) (length (g .lent .output)) (g .table) accepted
+
+  pub cellsFit : length (g .lent .cells) ≤ cellsLimit
+  cellsFit =
+      go (ltb textLimit (length (g .text))) (ltb cellsLimit (length (g .lent .cells))) (ltb outputLimit (length (g .lent .output))) refl (fits .0)
+    where
+      go : (t c o : Bool) → ltb cellsLimit (length (g .lent .cells)) ≡ c → (t || (c || o)) ≡ false → length (g .lent .cells) ≤ cellsLimit
+      go false false o e h = ltb-false cellsLimit (length (g .lent .cells)) e
+      go true c o e h = absurd (true≢false h)
+      go false true o e h = absurd (true≢false h)
+
+  pub signsFit : length (g .table) ≡ 256
+  signsFit = accepted-exactly (g .table) .0 (fits .1) .size
 
 -- a whole run from the built-ins, and demand 3 of it
-pub delivers : (T : Table) (text : Bytes) (m : Lent) (allowance : ℕ) (x : Returned) → x ≡ expanded (given T text m allowance)
-    → Expanded (given T text m allowance) x
-delivers T text m allowance x e =
-    let g = given T text m allowance in
-    (e, subst (Substitutes g) (sym e) (substitutes g (omega (arith, builtIns-free))))
+pub delivers : (g : Given) → g .definitions ≡ builtIns → (x : Returned) → x ≡ expanded g → Expanded g x
+delivers g from x e = (e, subst (Substitutes g) (sym e) (substitutes g (free g from)))

@@ -1,5 +1,7 @@
 // Strachey's macrogenerator in lent memory: the public calls over the machine's one call.
+use language::Sizes;
 use language::outcomes;
+use language::refusals::Verdict;
 use machine::run::Answer;
 use machine::run::Run;
 use machine::run::Stepped;
@@ -7,7 +9,9 @@ ghost use mathlib.Core.Path.{_≡_};
 ghost use Prim.Native.Nat.{_≤_};
 ghost use lib.ListN.{length};
 ghost use Rattle.language.specs.Signs.{standard, cellsLimit};
-ghost use Rattle.language.specs.Expansion.{lent};
+ghost use mathlib.Core.Option.{none};
+ghost use Rattle.language.specs.Refusals.{refusedBy};
+ghost use Rattle.language.specs.Expansion.{lent, refusals, expanded};
 ghost use Rattle.language.specs.Demand.{Expanded};
 ghost use Rattle.expander.specs.Reports.{given, outcomeOf, reportOf, refusedWith, returned, Ran};
 
@@ -22,12 +26,12 @@ pub struct Report {
     pub live: u64,
 }
 
-// A whole run over a text, in the cells, the output and the allowance of scans that are lent. By scanning: report, output and
-// cells are those of the run that document 01 defines. By substitution: demand 3 holds of them.
+// A whole run over a text, in the cells, the output and the allowance of scans that are lent, with the standard signs. By
+// scanning: report, output and cells are those of the run that document 01 defines. By substitution: demand 3 holds of them.
 pub fn expand(text: &[u8], cells: &mut [u32], output: &mut [u8], allowance: u64) -> Report
     ensures { λ r. ⌜ Expanded (given standard (now (text .entry)) (lent (now (cells .entry)) (now (output .entry))) allowance) (returned r (lent (now (cells .exit)) (now (output .exit)))) ⌝ }
 {
-    let sizes = language::Sizes {
+    let sizes = Sizes {
         text: text.len(),
         cells: cells.len(),
         output: output.len(),
@@ -36,12 +40,33 @@ pub fn expand(text: &[u8], cells: &mut [u32], output: &mut [u8], allowance: u64)
         return Report::refused(outcomes::TOO_LARGE);
     }
     let kinds = language::standard_kinds();
-    let st = run_to_end(&kinds, text, cells, output, allowance);
-    memory::clear(cells);
-    Report::of(st)
+    expand_accepted(&kinds, text, cells, output, allowance)
 }
 
-// The same run for C callers: each slice is a pointer and a length, and the report is returned by value.
+// The same with the caller's own signs: a table of 256 kinds in place of the standard one.
+pub fn expand_signs(
+    signs: &[u8],
+    text: &[u8],
+    cells: &mut [u32],
+    output: &mut [u8],
+    allowance: u64,
+) -> Report
+    ensures { λ r. ⌜ Expanded (given (now (signs .entry)) (now (text .entry)) (lent (now (cells .entry)) (now (output .entry))) allowance) (returned r (lent (now (cells .exit)) (now (output .exit)))) ⌝ }
+{
+    let sizes = Sizes {
+        text: text.len(),
+        cells: cells.len(),
+        output: output.len(),
+    };
+    let verdict = Verdict::on_lent(sizes, signs);
+    if let Verdict::Refused(outcome) = verdict {
+        return Report::refused(outcome);
+    }
+    let kinds = kinds_of(signs);
+    expand_accepted(&kinds, text, cells, output, allowance)
+}
+
+// For C callers: each slice is a pointer and a length, and the report is returned by value.
 #[no_mangle]
 pub extern "C" fn gpm_expand(
     text: &[u8],
@@ -52,6 +77,45 @@ pub extern "C" fn gpm_expand(
     ensures { λ r. ⌜ Expanded (given standard (now (text .entry)) (lent (now (cells .entry)) (now (output .entry))) allowance) (returned r (lent (now (cells .exit)) (now (output .exit)))) ⌝ }
 {
     expand(text, cells, output, allowance)
+}
+
+#[no_mangle]
+pub extern "C" fn gpm_expand_signs(
+    signs: &[u8],
+    text: &[u8],
+    cells: &mut [u32],
+    output: &mut [u8],
+    allowance: u64,
+) -> Report
+    ensures { λ r. ⌜ Expanded (given (now (signs .entry)) (now (text .entry)) (lent (now (cells .entry)) (now (output .entry))) allowance) (returned r (lent (now (cells .exit)) (now (output .exit)))) ⌝ }
+{
+    expand_signs(signs, text, cells, output, allowance)
+}
+
+// A call that is not refused: the run to its end, the cells cleared, the report.
+fn expand_accepted(
+    kinds: &[u8; 256],
+    text: &[u8],
+    cells: &mut [u32],
+    output: &mut [u8],
+    allowance: u64,
+) -> Report
+    requires { ⌜ refusedBy (refusals (given (now kinds) (now text) (lent (now cells) (now output)) allowance)) ≡ none ⌝ }
+    ensures { λ r. ⌜ returned r (lent (now (cells .exit)) (now (output .exit))) ≡ expanded (given (now (kinds .entry)) (now (text .entry)) (lent (now (cells .entry)) (now (output .entry))) allowance) ⌝ }
+{
+    let st = run_to_end(kinds, text, cells, output, allowance);
+    memory::clear(cells);
+    Report::of(st)
+}
+
+// The signs as an array, in which every byte has its place.
+fn kinds_of(signs: &[u8]) -> [u8; 256]
+    requires { ⌜ length (now signs) ≡ 256 ⌝ }
+    ensures { λ r. ⌜ r ≡ now (signs .entry) ⌝ }
+{
+    let mut kinds = [0; 256];
+    memory::copy_bytes(signs, &mut kinds, 0, 256);
+    kinds
 }
 
 // Scans until the run ends or the allowance is used. The cells then hold the definitions that stand: demand 3 is whole here,

@@ -4,7 +4,7 @@
 -- have.
 use Prim.Native.Nat.{ℕ, zero, suc}
 use Prim.Native.String.{String}
-use mathlib.Core.Path.{_≡_, refl, ap}
+use mathlib.Core.Path.{_≡_, refl, ap, _∙_}
 use mathlib.Core.Bool.{Bool, true, false, cond, _&&_}
 use mathlib.Core.List.{List, [], _∷_, _++_}
 use mathlib.Core.Option.{Option, none, some}
@@ -14,13 +14,14 @@ use Rattle.decimal.specs.Operand.{operand, digitsFrom}
 use Rattle.decimal.specs.Shortest.{digitsOf}
 use Rattle.language.specs.Signs.{Bytes, ascii, standard, meaning, parameterDigit, parameterNumber, Language, language, digitsOnly}
 use Rattle.language.specs.Outcomes
+use Rattle.language.specs.Refusals.{refusedBy, sizesTooLarge, someBelow, countBelow, signRefusals}
 use Rattle.language.specs.Definitions.{macro, Definition, same, newest, altered, live, among}
 use Rattle.language.specs.BuiltIns.{builtIns, deed}
 use Rattle.language.specs.Charge.{argumentsPrice, definitionsPrice}
 use Rattle.language.specs.Ends.{End, Reported, reported}
 use Rattle.language.specs.Scanning.{noLimits, run, scan, scans, callsCharge, bodiesCharge, reading}
 use Rattle.language.specs.Substitution.{substituted, eval, within}
-use Rattle.language.specs.Expansion.{Given, Returned, lent, limitsOf, sizesTooLarge, tooLarge, refusedBy, answered, cleared, expanded}
+use Rattle.language.specs.Expansion.{Given, Returned, lent, limitsOf, answered, cleared, expanded}
 
 -- the six numbers of a report in document 01's order: outcome, read, written, scans, most, live
 abbrev report : ℕ → ℕ → ℕ → ℕ → ℕ → ℕ → Reported
@@ -349,7 +350,7 @@ failingLending [] = []
 failingLending (c ∷ cs) = let r = failingLending cs in cond (byLending c) r (c .0 ∷ r)
 
 pub lendings : failingLending lending ≡ []
-unfolding expanded refusedBy cleared run scan scans same newest altered live among deed argumentsPrice definitionsPrice callsCharge bodiesCharge reading meaning
+unfolding expanded refusedBy someBelow countBelow cleared run scan scans same newest altered live among deed argumentsPrice definitionsPrice callsCharge bodiesCharge reading meaning
 lendings = refl
 
 -- sizes at the limits and over them
@@ -359,11 +360,17 @@ sizes-at-the-limits = refl
 pub sizes-over-a-limit : (sizesTooLarge 65537 0 0 ≡ true) × (sizesTooLarge 0 65537 0 ≡ true) × (sizesTooLarge 0 0 65537 ≡ true)
 sizes-over-a-limit = (refl, refl, refl)
 
--- each of the three is measured
-pub sizes-measured : (g : Given) → tooLarge g ≡ sizesTooLarge (length (g .text)) (length (g .lent .cells)) (length (g .lent .output))
-sizes-measured g = refl
+-- each of the three is measured; 2 comes before the signs
+abbrev overLimit : Given → Bool
+overLimit g = sizesTooLarge (length (g .text)) (length (g .lent .cells)) (length (g .lent .output))
 
-pub too-large : (g : Given) → tooLarge g ≡ true
-    → expanded g ≡ record { report = report 2 0 0 0 0 0; lent = g .lent }
+pub too-large : (g : Given) → overLimit g ≡ true → expanded g ≡ record { report = report 2 0 0 0 0 0; lent = g .lent }
 unfolding expanded refusedBy
-too-large g h = ap (λ (x : Bool). answered (cond x (some Outcomes.tooLarge) none) g) h
+too-large g h = ap (λ (x : Bool). answered (cond x (some Outcomes.tooLarge) (refusedBy (signRefusals (g .table)))) g) h
+
+-- by the signs a call is refused with the outcome of the check, nothing touched
+pub signs-refused : (g : Given) (k : ℕ) → overLimit g ≡ false → refusedBy (signRefusals (g .table)) ≡ some k
+    → expanded g ≡ record { report = report k 0 0 0 0 0; lent = g .lent }
+unfolding expanded refusedBy
+signs-refused g k h e =
+    ap (λ (x : Bool). answered (cond x (some Outcomes.tooLarge) (refusedBy (signRefusals (g .table)))) g) h ∙ ap (λ (x : Option ℕ). answered x g) e

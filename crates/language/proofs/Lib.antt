@@ -1,5 +1,6 @@
 pub mod Lists
 pub mod Prices
+pub mod Accepted
 pub mod Leads
 pub mod Frames
 pub mod Runs

@@ -7,8 +7,7 @@ use mathlib.Core.Path.{_≡_, refl, sym, _∙_, ap, subst}
 use mathlib.Core.Bool.{Bool, true, false, cond, _&&_}
 use mathlib.Core.List.{List, [], _∷_, _++_}
 use mathlib.Core.Option.{Option, none, some, bind}
-use lib.ListN.{length, drop, getD, replicate, length-replicate, getD-replicate, List·getD-append}
-use lib.Seq.{getD-drop}
+use lib.ListN.{length}
 use lib.Dec.{leb, ltb, eqb}
 use lib.IntN.{ℤ, pos, negsuc}
 use borrow.Author.Tests.{ltb-true, leb-true}
@@ -16,9 +15,10 @@ use Rattle.decimal.specs.declared.operations.Operation.{Operation}
 use Rattle.decimal.specs.Operand.{operand, inRange}
 use Rattle.decimal.specs.Arithmetic.{Result, divides, isZero, exact, ofOperands}
 use Rattle.decimal.specs.Shortest.{digitsOf, shortest}
-use Rattle.language.specs.Signs.{Bytes, Table, Sign, plain, dollar, comma, semicolon, tilde, quote, unquote, signOfKind, signOf, Meaning, copied, leftOut, opens, separates, applies, fetches, unquotes, outside, inside, meaning, parameterDigit, parameterNumber, language, standard}
+use Rattle.language.specs.Signs.{Bytes, Table, Sign, plain, dollar, comma, semicolon, tilde, quote, unquote, signOf, Meaning, copied, leftOut, opens, separates, applies, fetches, unquotes, outside, inside, meaning, parameterDigit, parameterNumber, language}
 use Rattle.language.specs.Outcomes
 use Rattle.language.specs.Outcomes.{finishes}
+use Rattle.language.specs.Refusals.{isReserved, AcceptedTable}
 use Rattle.language.specs.declared.built_ins.BuiltIn.{BuiltIn}
 use Rattle.language.specs.declared.built_ins.BuiltIn.the-variants.{Def, Val, Update, Arithmetic}
 use Rattle.language.specs.Definitions.{Content, macro, builtIn, Definition, Found, found, missing, same, newest, valued, altered, oldest, without, among, counts, live}
@@ -27,7 +27,8 @@ use Rattle.language.specs.Charge.{openPrice, endPrice}
 use Rattle.language.specs.Ends.{End}
 use Rattle.language.specs.Scanning.{Call, Body, Standing, State, Step, next, stop, ends, noting, withRest, Limits, listOf, reading, scan, scans, start, endOf, run}
 use Rattle.language.specs.Scanning as S
-use Rattle.language.specs.Matched.{depthBy, depthAfter, Matched, All, empty, with, Innermost, CallMatches, BodyMatches, ContentMatches, ValueMatches, depthWritten, QuotesMatch, DigitsAndLettersPlain}
+use Rattle.language.specs.Matched.{depthBy, depthAfter, Matched, All, empty, with, Innermost, CallMatches, BodyMatches, ContentMatches, ValueMatches, depthWritten, QuotesMatch}
+use Rattle.language.proofs.Accepted.{digit-reserved, letter-reserved, accepted-plain}
 use Rattle.language.proofs.Lists.{either, all-append, all-take, all-drop, all-getD}
 
 -- Every element ------------------------------------------------------------------------------------------------------
@@ -42,6 +43,10 @@ module _ {A : Type 0} (P : ℕ → A → Type 0) where
   of-all : {xs : List A} → All (P 0) xs → Innermost P 0 xs
   of-all empty = tt
   of-all (with p ps) = (p, ps)
+
+-- the bytes of built-in names, of numbers and of parameters after `~` are no signs
+abbrev ReservedPlain : Table → Type 0
+ReservedPlain T = (b : ℕ) → isReserved b ≡ true → signOf T b ≡ plain
 
 -- Depths -------------------------------------------------------------------------------------------------------------
 
@@ -177,25 +182,25 @@ module _ (T : Table) where
   update-matches ks w m (found k (macro x)) = either DeedMatches (among k ks) refl (either DeedMatches (ltb (x .room) (length w)) refl m)
   update-matches ks w m (found k (builtIn b)) = refl
 
-  module _ (plainly : DigitsAndLettersPlain T) where
+  module _ (plainly : ReservedPlain T) where
     -- a byte that stands for a parameter is no sign
     number-plain : (b k : ℕ) → parameterNumber b ≡ some k → signOf T b ≡ plain
     number-plain b k = byLetter (leb 97 b) refl (leb b 122) refl
       where
         byDigit : (x : Bool) → leb 48 b ≡ x → (y : Bool) → leb b 57 ≡ y → cond (x && y) (some (b - 48)) none ≡ some k → signOf T b ≡ plain
-        byDigit true p true p′ e = plainly .digit b (leb-true 48 b p) (leb-true b 57 p′)
+        byDigit true p true p′ e = plainly b (digit-reserved b (leb-true 48 b p) (leb-true b 57 p′))
         byDigit true p false p′ e = absurd (none-some e)
         byDigit false p y p′ e = absurd (none-some e)
 
         byLetter : (x : Bool) → leb 97 b ≡ x → (y : Bool) → leb b 122 ≡ y
             → cond (x && y) (some (b - 97 + 10)) (parameterDigit b) ≡ some k → signOf T b ≡ plain
-        byLetter true p true p′ e = plainly .letter b (leb-true 97 b p) (leb-true b 122 p′)
+        byLetter true p true p′ e = plainly b (letter-reserved b (leb-true 97 b p) (leb-true b 122 p′))
         byLetter true p false p′ e = byDigit (leb 48 b) refl (leb b 57) refl e
         byLetter false p y p′ e = byDigit (leb 48 b) refl (leb b 57) refl e
 
     -- one digit
     digit-matched : (d : ℕ) → d < 10 → Matched T ((48 + d) ∷ [])
-    digit-matched d h = depth-plain T 0 (48 + d) [] (plainly .digit (48 + d) (omega arith) (omega arith)) ∙ matched-empty T
+    digit-matched d h = depth-plain T 0 (48 + d) [] (plainly (48 + d) (digit-reserved (48 + d) (omega arith) (omega arith))) ∙ matched-empty T
 
     -- digits
     digits-matched : (more n : ℕ) → Matched T (digitsOf more n)
@@ -212,7 +217,7 @@ module _ (T : Table) where
     -- a result of arithmetic
     shortest-matched : (z : ℤ) → Matched T (shortest z)
     shortest-matched (pos n) = digits-matched n n
-    shortest-matched (negsuc n) = depth-plain T 0 45 (digitsOf (suc n) (suc n)) (plainly .minus) ∙ digits-matched (suc n) (suc n)
+    shortest-matched (negsuc n) = depth-plain T 0 45 (digitsOf (suc n) (suc n)) (plainly 45 refl) ∙ digits-matched (suc n) (suc n)
 
     -- arithmetic gives a decimal or one of its own outcomes
     result-matches : (op : Operation) (a b : Option ℤ) → DeedMatches (resultOf (ofOperands op a b))
@@ -313,7 +318,7 @@ module _ (T : Table) where
   refused : (n : ℕ) (s : State) → finishes n ≡ false → Kept T (s .standing .output) (ends n s)
   refused n s e = record { unchanged = refl; matched = λ f. absurd (false-true (sym e ∙ f)) }
 
-module _ (L : Limits) (T : Table) (plainly : DigitsAndLettersPlain T) where
+module _ (L : Limits) (T : Table) (plainly : ReservedPlain T) where
   -- within the cells lent, or refused
   charged : (n : ℕ) (s : State) (go : State → Step) → ((m : ℕ) → Kept T (s .standing .output) (go (noting m s)))
       → Kept T (s .standing .output) (S.charging L n s go)
@@ -526,25 +531,11 @@ pub built-ins-match : (T : Table) → All (ValueMatches T) builtIns
 unfolding live
 built-ins-match T = uncounted-match T builtIns refl
 
--- The standard table has digits, `-` and lower-case letters plain.
-pub standard-plain : DigitsAndLettersPlain standard
-standard-plain = record {
-  minus = refl;
-  digit = λ b l h. ap signOfKind (kind 48 10 b refl (omega arith) (omega arith));
-  letter = λ b l h. ap signOfKind (kind 97 26 b refl (omega arith) (omega arith));
-}
-  where
-    -- a byte of a stretch of n zeros
-    kind : (from n b : ℕ) → drop from standard ≡ replicate n 0 ++ drop (from + n) standard → from + (b - from) ≡ b → b - from < n
-        → getD standard b 0 ≡ 0
-    kind from n b z e h =
-        ap (λ (k : ℕ). getD standard k 0) (sym e)
-        ∙ sym (getD-drop from standard (b - from) 0)
-        ∙ ap (λ (l : Table). getD l (b - from) 0) z
-        ∙ List·getD-append (replicate n 0) (drop (from + n) standard) 0 (b - from) (rw (length-replicate {A = ℕ} n 0) h)
-        ∙ getD-replicate n (b - from) 0 0 h
+module _ (L : Limits) (T : Table) (accepted : AcceptedTable T) where
+  -- by the check for 32
+  plainly : ReservedPlain T
+  plainly = accepted-plain T accepted
 
-module _ (L : Limits) {T : Table} (plainly : DigitsAndLettersPlain T) where
   -- A scan keeps quotes matched,
   pub quotes-kept : {s s′ : State} → QuotesMatch T s → scan L (language T) s ≡ next s′ → QuotesMatch T s′
   quotes-kept {s} g e = subst (Kept T (s .standing .output)) e (scan-keeps L T plainly s g)

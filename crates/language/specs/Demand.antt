@@ -7,9 +7,10 @@ use lib.ListN.{length}
 use lib.Dec.{T as So}
 use Rattle.language.specs.Signs.{language}
 use Rattle.language.specs.Outcomes.{endOfText}
+use Rattle.language.specs.Refusals.{refusedBy}
 use Rattle.language.specs.Ends.{End, reported}
 use Rattle.language.specs.Substitution.{substituted}
-use Rattle.language.specs.Expansion.{Given, Returned, refusals, refusedBy, overwritten, expanded}
+use Rattle.language.specs.Expansion.{Given, Returned, refusals, overwritten, expanded}
 
 -- Substitution of the text comes to the end e at some depth, and what was lent is at least what it counted.
 pub record Affords (g : Given) (e : End) : Type 0 where
@@ -28,7 +29,7 @@ Demand3 g run = (e : End) → ((run ≡ e) × So (endOfText (e .outcome))) ↔ A
 pub record Substitutes (g : Given) (x : Returned) : Type 0 where
   pub only : So (endOfText (x .report .outcome))
       → (e : End) × Affords g e × (x .report ≡ reported e) × (x .lent .output ≡ overwritten (e .output) (g .lent .output))
-  pub always : refusedBy refusals g ≡ none → (e : End) → Affords g e
+  pub always : refusedBy (refusals g) ≡ none → (e : End) → Affords g e
       → So (endOfText (e .outcome)) × (x .report ≡ reported e) × (x .lent .output ≡ overwritten (e .output) (g .lent .output))
 
 -- What a whole run leaves, by both definitions: by scanning it is the run of document 01; by substitution demand 3 holds of it.

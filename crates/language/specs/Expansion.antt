@@ -1,12 +1,10 @@
 -- A public call: from what it is given to what it reports and leaves.
 use Prim.Native.Nat.{ℕ}
-use mathlib.Core.Bool.{Bool, cond, _||_}
 use mathlib.Core.List.{List, [], _∷_, _++_}
 use mathlib.Core.Option.{Option, none, some}
 use lib.ListN.{length, drop}
-use lib.Dec.{ltb}
-use Rattle.language.specs.Signs.{Bytes, Table, language, textLimit, cellsLimit, outputLimit}
-use Rattle.language.specs.Outcomes
+use Rattle.language.specs.Signs.{Bytes, Table, language}
+use Rattle.language.specs.Refusals.{Refusal, refusedBy, lentRefusals}
 use Rattle.language.specs.Definitions.{Definition}
 use Rattle.language.specs.Ends.{End, Reported, reported}
 use Rattle.language.specs.Scanning.{Limits, atMost, run}
@@ -34,26 +32,9 @@ pub record Returned : Type 0 where
 
 -- Refusals -----------------------------------------------------------------------------------------------------------
 
--- an outcome that a call has before its first scan, and when
-pub record Refusal : Type 0 where
-  pub outcome : ℕ
-  pub holds : Given → Bool
-
--- "text, cells and output may each be lent up to 65,536 long"
-abbrev pub sizesTooLarge : ℕ → ℕ → ℕ → Bool
-sizesTooLarge text cells output = ltb textLimit text || (ltb cellsLimit cells || ltb outputLimit output)
-
-abbrev pub tooLarge : Given → Bool
-tooLarge g = sizesTooLarge (length (g .text)) (length (g .lent .cells)) (length (g .lent .output))
-
--- the refusals of a call that expands a text, in their order
-abbrev pub refusals : List Refusal
-refusals = record { outcome = Outcomes.tooLarge; holds = tooLarge } ∷ []
-
--- the first that holds
-unfoldable pub refusedBy : List Refusal → Given → Option ℕ
-refusedBy [] g = none
-refusedBy (x ∷ more) g = let r = refusedBy more g in cond (x .holds g) (some (x .outcome)) r
+-- in their order, of what is given
+abbrev pub refusals : Given → List Refusal
+refusals g = lentRefusals (length (g .text)) (length (g .lent .cells)) (length (g .lent .output)) (g .table)
 
 -- "all counts 0; nothing touched"
 abbrev pub untouched : ℕ → Lent → Returned
@@ -86,4 +67,4 @@ answered none g = returnedBy (ending g) (g .lent)
 
 -- a whole run: refused, or brought to its end
 unfoldable pub expanded : Given → Returned
-expanded g = answered (refusedBy refusals g) g
+expanded g = answered (refusedBy (refusals g)) g

@@ -1,5 +1,6 @@
 pub mod Signs
 pub mod Outcomes
+pub mod Refusals
 pub mod Definitions
 pub mod BuiltIns
 pub mod Charge

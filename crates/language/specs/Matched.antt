@@ -1,6 +1,6 @@
 -- Document 01, Quotes: "Every collected string so has matched quotes: a body never shows an unquoted `>` and never ends
 -- inside quotes."
-use Prim.Native.Nat.{ℕ, zero, suc, pred, _≤_}
+use Prim.Native.Nat.{ℕ, zero, suc, pred}
 use mathlib.Core.Path.{_≡_}
 use mathlib.Core.List.{List, [], _∷_}
 use mathlib.Core.Option.{Option, none, some, bind}
@@ -69,9 +69,3 @@ pub record QuotesMatch (T : Table) (s : State) : Type 0 where
   pub output : depthAfter T 0 (s .standing .output) ≡ some (depthWritten (s .quotes) (s .calls))
   pub bodies : Innermost (BodyMatches T) (s .quotes) (s .bodies)
   pub values : All (ValueMatches T) (s .standing .definitions)
-
--- the bytes of which a result of arithmetic is made, and those that may follow `~` in a body, are no signs
-pub record DigitsAndLettersPlain (T : Table) : Type 0 where
-  pub minus : signOf T 45 ≡ plain
-  pub digit : (b : ℕ) → 48 ≤ b → b ≤ 57 → signOf T b ≡ plain
-  pub letter : (b : ℕ) → 97 ≤ b → b ≤ 122 → signOf T b ≡ plain

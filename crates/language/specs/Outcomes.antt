@@ -1,4 +1,4 @@
--- Document 01, What a run reports: each number of the table, by name.
+-- Document 01, What a run reports: each number of the table, by name; and those of document 02.
 use Prim.Native.Nat.{ℕ}
 use mathlib.Core.Bool.{Bool, _&&_, _||_}
 use lib.Dec.{eqb, leb}
@@ -58,6 +58,16 @@ abbrev pub updateTooLong : ℕ
 updateTooLong = 21
 
 -- 22 to 24 are the arithmetic's: notANumber, divisorZero and resultOutOfRange of crate decimal.
+
+-- Document 02, Two: refusals of a call
+abbrev pub notATable : ℕ
+notATable = 30
+
+abbrev pub signNotOneByte : ℕ
+signNotOneByte = 31
+
+abbrev pub reservedSign : ℕ
+reservedSign = 32
 
 -- "A run finishes with 0 or 1"
 abbrev pub finishes : ℕ → Bool

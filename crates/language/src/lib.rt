@@ -1,10 +1,11 @@
 // The signs and the limits of document 01 as values of the code. The rest of this crate is definitions and theorems.
 pub mod built_ins;
 pub mod outcomes;
+pub mod refusals;
 
 ghost use mathlib.Core.Path.{_≡_};
 ghost use Rattle.language.specs.Signs.{standard};
-ghost use Rattle.language.specs.Expansion.{sizesTooLarge};
+ghost use Rattle.language.specs.Refusals.{sizesTooLarge};
 
 // The standard table: the kind of each byte, 0 for plain and 1 to 6 for `$` `,` `;` `~` `<` `>`.
 const STANDARD: [u8; 256] =

@@ -1,4 +1,4 @@
-// The outcomes of document 01, under the words of specs/Outcomes.antt. 22 to 24 are the arithmetic's, in crate decimal.
+// The outcomes of documents 01 and 02, under the words of specs/Outcomes.antt. 22 to 24 are the arithmetic's, in crate decimal.
 pub const FINISHED: u32 = 0;
 
 pub const FINISHED_AT_QUOTE: u32 = 1;
@@ -34,3 +34,9 @@ pub const BUILT_IN: u32 = 19;
 pub const BODY_BEING_READ: u32 = 20;
 
 pub const UPDATE_TOO_LONG: u32 = 21;
+
+pub const NOT_A_TABLE: u32 = 30;
+
+pub const SIGN_NOT_ONE_BYTE: u32 = 31;
+
+pub const RESERVED_SIGN: u32 = 32;

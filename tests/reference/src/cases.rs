@@ -1,8 +1,11 @@
-//! Scripts with known ends, worked out by hand from document 01 and document 02's request One, against both halves.
+//! Scripts with known ends, worked out by hand from document 01 and document 02's requests One and Two, against both
+//! halves.
+mod own_signs;
+
 use crate::arithmetic::{reckon, Operation};
 use crate::ends::End;
-use crate::scanning::{run, run_reading, run_traced, Handled, Lent};
-use crate::signs::{digit, digit_or_letter, KINDS, LIMIT};
+use crate::scanning::{run, run_reading, run_traced, Handled, Lent, Row};
+use crate::signs::{digit, digit_or_letter, Table, LIMIT};
 use crate::substitution::{substitute, Bounds};
 
 const BOUNDS: Bounds = Bounds {
@@ -23,14 +26,19 @@ fn text(bytes: &[u8]) -> &str {
     std::str::from_utf8(bytes).expect("the cases are ASCII")
 }
 
+/// Substitution and traced scanning under the standard signs.
+fn substituted(script: &str, bounds: &Bounds) -> Option<End> {
+    substitute(script.as_bytes(), &Table::STANDARD, bounds)
+}
+
+fn traced(script: &str, lent: &Lent, each: &mut dyn FnMut(&Row)) -> End {
+    run_traced(&Ok(Table::STANDARD), script.as_bytes(), lent, each)
+}
+
 /// The end, which both halves give.
 fn end(script: &str) -> End {
     let scanned = run(script.as_bytes(), &Lent::PROGRAM);
-    assert_eq!(
-        substitute(script.as_bytes(), &BOUNDS).as_ref(),
-        Some(&scanned),
-        "{script}"
-    );
+    assert_eq!(substituted(script, &BOUNDS).as_ref(), Some(&scanned), "{script}");
     scanned
 }
 
@@ -355,6 +363,13 @@ fn bytes_that_fetch() {
     assert_eq!(numbers, (0..36).collect::<Vec<usize>>());
 }
 
+/// Enough for four pieces, unless they have no end.
+const LITTLE: Lent = Lent {
+    cells: 300,
+    output: 300,
+    allowance: 500,
+};
+
 /// Every way to put four of these pieces together.
 fn four_pieces() -> impl Iterator<Item = String> {
     const PIECES: [&str; 9] = ["~", "1", "a", "x", "<", ">", ",", ";", "$k"];
@@ -365,18 +380,13 @@ fn four_pieces() -> impl Iterator<Item = String> {
 /// Whether a script expands as before request One. It does unless a body shows an unquoted `~` before a letter; then it
 /// was refused with 12 at the first such place.
 fn expands_as_before(script: &str) -> bool {
-    let lent = Lent {
-        cells: 300,
-        output: 300,
-        allowance: 500,
-    };
     let mut first = None;
-    let now = run_traced(script.as_bytes(), &lent, &mut |row| {
+    let now = traced(script, &LITTLE, &mut |row| {
         if matches!(row.handled, Handled::Parameter(b'a'..=b'z')) {
             first.get_or_insert(row.scan());
         }
     });
-    let before = run_reading(script.as_bytes(), &lent, digit);
+    let before = run_reading(script.as_bytes(), &LITTLE, digit);
     match first {
         None => assert_eq!(before, now, "{script}"),
         Some(scan) => assert_eq!((before.report.outcome, before.report.scans), (12, scan), "{script}"),
@@ -446,7 +456,7 @@ fn updates() {
 /// The charge after each scan.
 fn charges(script: &str) -> Vec<usize> {
     let mut charges = Vec::new();
-    run_traced(script.as_bytes(), &Lent::PROGRAM, &mut |row| charges.push(row.charge()));
+    traced(script, &Lent::PROGRAM, &mut |row| charges.push(row.charge()));
     charges
 }
 
@@ -500,7 +510,7 @@ fn paper_examples() {
 
 #[test]
 fn no_end_within_the_bounds() {
-    let none = |script: &str, bounds: Bounds| assert!(substitute(script.as_bytes(), &bounds).is_none(), "{script}");
+    let none = |script: &str, bounds: Bounds| assert!(substituted(script, &bounds).is_none(), "{script}");
     none("$DEF,k,<$k;>;$k;", BOUNDS);
     none("$DEF,k,<$k,~1~1;>;$k,x;", Bounds { charge: 50, ..BOUNDS });
     none("aa", Bounds { output: 1, ..BOUNDS });
@@ -512,28 +522,24 @@ fn no_end_within_the_bounds() {
         charge: 16,
         output: 2,
     };
-    assert_eq!(substitute(A.as_bytes(), &least), Some(end(A)));
+    assert_eq!(substituted(A, &least), Some(end(A)));
 }
 
 #[test]
 fn depth_is_of_nested_calls() {
     // `$k;` stands in the list of `$j`, and the body of `k` calls `$i;`: three deep.
     let script = "$DEF,i,x;$DEF,k,<$i;>;$DEF,j,<~1>;$j,$k;;";
-    assert!(substitute(script.as_bytes(), &Bounds { depth: 2, ..BOUNDS }).is_none());
-    assert_eq!(
-        substitute(script.as_bytes(), &Bounds { depth: 3, ..BOUNDS }),
-        Some(end(script))
-    );
+    assert!(substituted(script, &Bounds { depth: 2, ..BOUNDS }).is_none());
+    assert_eq!(substituted(script, &Bounds { depth: 3, ..BOUNDS }), Some(end(script)));
 }
 
 #[test]
 fn traced_run_is_the_run() {
-    let script = "$DEF,k,<p~1>;$k,7;".as_bytes();
     let mut rows = Vec::new();
-    let end = run_traced(script, &Lent::PROGRAM, &mut |row| {
+    let end = traced(A, &Lent::PROGRAM, &mut |row| {
         rows.push((row.scan(), row.handled, row.output().to_vec()))
     });
-    assert_eq!(end, run(script, &Lent::PROGRAM));
+    assert_eq!(end, run(A.as_bytes(), &Lent::PROGRAM));
     assert_eq!(rows.len(), 22);
     assert_eq!(rows[0], (1, Handled::Byte(b'$'), b"".to_vec()));
     assert_eq!(rows[9], (10, Handled::Byte(b'~'), b"".to_vec()));
@@ -545,7 +551,7 @@ fn traced_run_is_the_run() {
 /// What the last scan of a script handled, and the parameter that it was to fetch.
 fn last_handled(script: &str) -> Option<(Handled, Option<Vec<u8>>)> {
     let mut last = None;
-    run_traced(script.as_bytes(), &Lent::PROGRAM, &mut |row| {
+    traced(script, &Lent::PROGRAM, &mut |row| {
         if row.ended {
             last = Some((row.handled, row.parameter().map(<[u8]>::to_vec)));
         }
@@ -573,10 +579,9 @@ fn trace_tells_what_the_tilde_comes_to() {
 
 #[test]
 fn kinds_of_bytes() {
-    let signs: Vec<u8> = (0..=255u8).filter(|&byte| KINDS[byte as usize] != 0).collect();
+    let signs: Vec<u8> = (0..=255).filter(|&byte| Table::STANDARD.kind(byte) != 0).collect();
     assert_eq!(signs.len(), 6);
-    let kinds: Vec<u8> = b"$,;~<>".iter().map(|&byte| KINDS[byte as usize]).collect();
-    assert_eq!(kinds, [1, 2, 3, 4, 5, 6]);
+    assert_eq!(b"$,;~<>".map(|byte| Table::STANDARD.kind(byte)), [1, 2, 3, 4, 5, 6]);
 }
 
 #[test]

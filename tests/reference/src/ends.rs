@@ -43,3 +43,21 @@ pub struct End {
     pub output: Vec<u8>,
     pub standing: Vec<Standing>,
 }
+
+impl End {
+    /// The end of a call that is refused before the first scan: "all counts 0; nothing touched".
+    pub fn refused(outcome: u64) -> End {
+        End {
+            report: Report {
+                outcome,
+                read: 0,
+                written: 0,
+                scans: 0,
+                most: 0,
+                live: 0,
+            },
+            output: Vec::new(),
+            standing: Vec::new(),
+        }
+    }
+}

@@ -1,7 +1,7 @@
 //! The program `reference`: runs the script on standard input by scanning or by substitution, or shows each scan.
 use reference::ends::End;
 use reference::scanning::{self, Handled, Lent, Row};
-use reference::signs::LIMIT;
+use reference::signs::{Table, LIMIT};
 use reference::substitution::{self, Bounds};
 use std::io::{self, Read, Write};
 use std::process::ExitCode;
@@ -72,7 +72,7 @@ fn substitute() -> io::Result<()> {
         return tell(&scanning::run(&text, &Lent::PROGRAM));
     }
     let value = std::thread::Builder::new().stack_size(STACK);
-    let value = value.spawn(move || substitution::substitute(&text, &BOUNDS))?;
+    let value = value.spawn(move || substitution::substitute(&text, &Table::STANDARD, &BOUNDS))?;
     match value.join().expect("substitution returns") {
         Some(end) => tell(&end),
         None => {
@@ -100,7 +100,7 @@ fn trace() -> io::Result<()> {
     writeln!(to, "| scan | byte | open calls | bodies | output | charge |")?;
     writeln!(to, "|---:|---|---|---|---|---:|")?;
     let mut written = Ok(());
-    let end = scanning::run_traced(&text, &Lent::PROGRAM, &mut |row| {
+    let end = scanning::run_traced(&Ok(Table::STANDARD), &text, &Lent::PROGRAM, &mut |row| {
         if written.is_ok() {
             written = writeln!(to, "{}", table_row(row));
         }

@@ -2,7 +2,7 @@
 //! Its lists grow as they please; the charge is summed anew from them whenever it is needed.
 use crate::arithmetic::{self, Operation};
 use crate::ends::{End, Report, Standing};
-use crate::signs::{self, BuiltIn, Reading};
+use crate::signs::{self, BuiltIn, Checked, Reading, Table};
 use std::fmt;
 use std::rc::Rc;
 
@@ -23,19 +23,24 @@ impl Lent {
     };
 }
 
-/// A run with these lent, to its end.
+/// A run with these lent, under the standard signs, to its end.
 pub fn run(text: &[u8], lent: &Lent) -> End {
-    run_reading(text, lent, signs::digit_or_letter)
+    run_signs(&Ok(Table::STANDARD), text, lent)
 }
 
-/// The run in which `~` fetches by this reading.
+/// "The caller may lend 256 bytes that take the place of the table of kinds": the run under the signs lent.
+pub fn run_signs(signs: &Checked, text: &[u8], lent: &Lent) -> End {
+    checked(signs, text, lent, signs::digit_or_letter, |machine| machine.scan())
+}
+
+/// The run of `run` in which `~` fetches by this reading.
 pub fn run_reading(text: &[u8], lent: &Lent, reading: Reading) -> End {
-    to_the_end(Machine::fresh(text, lent, reading), |machine| machine.scan())
+    checked(&Ok(Table::STANDARD), text, lent, reading, |machine| machine.scan())
 }
 
-/// The run of `run`; `each` is shown how it stands after each scan, a refused one included.
-pub fn run_traced(text: &[u8], lent: &Lent, each: &mut dyn FnMut(&Row)) -> End {
-    to_the_end(Machine::fresh(text, lent, signs::digit_or_letter), |machine| {
+/// The run of `run_signs`; `each` is shown how it stands after each scan, a refused one included.
+pub fn run_traced(signs: &Checked, text: &[u8], lent: &Lent, each: &mut dyn FnMut(&Row)) -> End {
+    checked(signs, text, lent, signs::digit_or_letter, |machine| {
         let handled = machine.due();
         let scanned = machine.scan();
         let ended = scanned.is_err();
@@ -75,13 +80,25 @@ impl fmt::Display for Handled {
 /// A scan gives the next standing, or the outcome that ends the run.
 type Scanned = Result<(), u64>;
 
-fn to_the_end(mut machine: Machine, mut one_scan: impl FnMut(&mut Machine) -> Scanned) -> End {
-    if [machine.text.len(), machine.lent.cells, machine.lent.output]
-        .iter()
-        .any(|&length| length > signs::LIMIT)
-    {
-        return machine.end(2);
+/// The run, unless what is lent is refused: by 2, "text, cells or output lent over 65,536 long", then by the signs.
+fn checked(
+    signs: &Checked,
+    text: &[u8],
+    lent: &Lent,
+    reading: Reading,
+    one_scan: impl FnMut(&mut Machine) -> Scanned,
+) -> End {
+    let lengths = [text.len(), lent.cells, lent.output];
+    if lengths.iter().any(|&length| length > signs::LIMIT) {
+        return End::refused(2);
     }
+    match signs {
+        Ok(table) => to_the_end(Machine::fresh(table, text, lent, reading), one_scan),
+        Err(outcome) => End::refused(*outcome),
+    }
+}
+
+fn to_the_end(mut machine: Machine, mut one_scan: impl FnMut(&mut Machine) -> Scanned) -> End {
     loop {
         // 3: "a further scan is due and the allowance has been used".
         if machine.scans == machine.lent.allowance {
@@ -125,6 +142,7 @@ impl Body {
 }
 
 struct Machine<'a> {
+    table: &'a Table,
     text: &'a [u8],
     lent: &'a Lent,
     reading: Reading,
@@ -168,8 +186,9 @@ impl Definition {
 }
 
 impl<'a> Machine<'a> {
-    fn fresh(text: &'a [u8], lent: &'a Lent, reading: Reading) -> Self {
+    fn fresh(table: &'a Table, text: &'a [u8], lent: &'a Lent, reading: Reading) -> Self {
         Machine {
+            table,
             text,
             lent,
             reading,
@@ -199,7 +218,7 @@ impl<'a> Machine<'a> {
         if self.quotes > 0 {
             return self.quoted(byte);
         }
-        match signs::kind(byte) {
+        match self.table.kind(byte) {
             signs::CALL => self.open(),
             signs::COMMA => self.comma(byte),
             signs::APPLY => self.apply(byte),
@@ -226,7 +245,7 @@ impl<'a> Machine<'a> {
 
     /// "The outermost pair is dropped, inner ones are copied. Inside, only quotes are recognised."
     fn quoted(&mut self, byte: u8) -> Scanned {
-        match signs::kind(byte) {
+        match self.table.kind(byte) {
             signs::QUOTE => self.quotes += 1,
             signs::UNQUOTE => self.quotes -= 1,
             _ => {}
@@ -534,7 +553,7 @@ impl Machine<'_> {
         };
         match body.bytes[body.at..] {
             [] => Handled::EndOfBody,
-            [byte, ref rest @ ..] if self.quotes == 0 && signs::kind(byte) == signs::FETCH => {
+            [byte, ref rest @ ..] if self.quotes == 0 && self.table.kind(byte) == signs::FETCH => {
                 let next = rest.first().copied();
                 next.filter(|&next| (self.reading)(next).is_some())
                     .map_or(Handled::FetchesNothing(next), Handled::Parameter)
@@ -559,9 +578,10 @@ impl Row<'_> {
 
     /// The calls being collected, outermost first, each as it would be written.
     pub fn calls(&self) -> Vec<Vec<u8>> {
+        let [begins, separates] = [signs::CALL, signs::COMMA].map(|kind| self.machine.table.sign(kind));
         let written = |call: &Call| {
             let items: Vec<&[u8]> = (0..).map_while(|number| call.item(number)).collect();
-            [b"$", items.join(&b","[..]).as_slice()].concat()
+            [&[begins], items.join(&separates).as_slice()].concat()
         };
         self.machine.calls.iter().map(written).collect()
     }

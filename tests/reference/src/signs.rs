@@ -1,10 +1,11 @@
-//! Document 01's "Bytes and signs": the kind of each byte, the built-in names and the limit; and which bytes fetch
-//! parameters.
+//! Document 01's "Bytes and signs": the kind of each byte, the built-in names and the limit; which tables of kinds are
+//! accepted, by document 02's request Two; and which bytes fetch parameters.
 use crate::arithmetic::Operation;
 
 /// Text, cells and output may each be lent up to this length.
 pub const LIMIT: usize = 65_536;
 
+// The kinds. A sign is named by its standard byte, here and wherever the language is described.
 pub const PLAIN: u8 = 0;
 /// `$` begins a call.
 pub const CALL: u8 = 1;
@@ -19,11 +20,68 @@ pub const QUOTE: u8 = 5;
 /// `>` closes a quotation.
 pub const UNQUOTE: u8 = 6;
 
-/// The kind of each byte: 0 for plain and 1 to 6 for the signs.
-pub const KINDS: [u8; 256] = kinds();
+/// How many entries a table has.
+const ENTRIES: usize = 256;
 
-const fn kinds() -> [u8; 256] {
-    let mut kinds = [PLAIN; 256];
+/// What the checks of signs that are lent come to: the table, or the outcome that refuses them.
+pub type Checked = Result<Table, u64>;
+
+/// "A table of 256 entries gives each byte its kind, 0 for plain and 1 to 6 for the signs in that order." There is none
+/// that is not accepted.
+#[derive(Clone, Debug, PartialEq, Eq)]
+pub struct Table {
+    kinds: [u8; ENTRIES],
+}
+
+impl Table {
+    /// "`$` begins a call, `,` separates, `;` applies, `~` fetches a parameter, `<` and `>` are quotes."
+    pub const STANDARD: Table = Table { kinds: standard() };
+
+    /// The checks of the signs, of which "all three" come "after 2".
+    pub fn accepted(lent: &[u8]) -> Checked {
+        // "30 where the table is not 256 bytes long or an entry is above 6".
+        let kinds = <[u8; ENTRIES]>::try_from(lent).map_err(|_| 30u64)?;
+        if kinds.iter().any(|&kind| kind > UNQUOTE) {
+            return Err(30);
+        }
+        // "then 31 where one of the six signs has no byte or several".
+        if (CALL..=UNQUOTE).any(|sign| bytes_of(&kinds, sign) != 1) {
+            return Err(31);
+        }
+        // "then 32 where an ASCII letter, a digit, `+`, `-` or `*` is a sign".
+        let table = Table { kinds };
+        if table.signs().any(never_a_sign) {
+            return Err(32);
+        }
+        Ok(table)
+    }
+
+    pub fn kind(&self, byte: u8) -> u8 {
+        self.kinds[usize::from(byte)]
+    }
+
+    /// The entries, as they are lent.
+    pub fn kinds(&self) -> &[u8] {
+        &self.kinds
+    }
+
+    /// The bytes that are signs.
+    fn signs(&self) -> impl Iterator<Item = u8> + '_ {
+        (0..=u8::MAX)
+            .zip(self.kinds)
+            .filter(|&(_, kind)| kind != PLAIN)
+            .map(|(byte, _)| byte)
+    }
+
+    /// The byte that is a sign of this kind.
+    pub fn sign(&self, kind: u8) -> u8 {
+        let byte = self.signs().find(|&byte| self.kind(byte) == kind);
+        byte.expect("each sign has a byte")
+    }
+}
+
+const fn standard() -> [u8; ENTRIES] {
+    let mut kinds = [PLAIN; ENTRIES];
     kinds[b'$' as usize] = CALL;
     kinds[b',' as usize] = COMMA;
     kinds[b';' as usize] = APPLY;
@@ -33,8 +91,13 @@ const fn kinds() -> [u8; 256] {
     kinds
 }
 
-pub fn kind(byte: u8) -> u8 {
-    KINDS[byte as usize]
+fn bytes_of(kinds: &[u8; ENTRIES], sign: u8) -> usize {
+    kinds.iter().filter(|&&kind| kind == sign).count()
+}
+
+/// "an ASCII letter, a digit, `+`, `-` or `*`"
+fn never_a_sign(byte: u8) -> bool {
+    matches!(byte, b'A'..=b'Z' | b'a'..=b'z' | b'0'..=b'9' | b'+' | b'-' | b'*')
 }
 
 /// The number of the parameter that `~` fetches in a body, by the byte after it; none for a byte that fetches nothing.

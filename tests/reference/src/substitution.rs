@@ -2,7 +2,7 @@
 //! parameters, is a list of pieces. It knows nothing of the scanning machine.
 use crate::arithmetic;
 use crate::ends::{End, Report, Standing};
-use crate::signs::{self, BuiltIn};
+use crate::signs::{self, BuiltIn, Table};
 use std::rc::Rc;
 
 /// Where substitution gives up. The depth is document 01's allowance; the others let a script without end return.
@@ -14,9 +14,9 @@ pub struct Bounds {
     pub output: usize,
 }
 
-/// The end of a text; none if a bound was passed before it.
-pub fn substitute(text: &[u8], bounds: &Bounds) -> Option<End> {
-    let mut handed = Handed::at_first(bounds);
+/// The end of a text under a table of kinds; none if a bound was passed before it.
+pub fn substitute(text: &[u8], table: &Table, bounds: &Bounds) -> Option<End> {
+    let mut handed = Handed::at_first(table, bounds);
     let known = Known {
         place: Place::Whole,
         collected: false,
@@ -106,8 +106,9 @@ enum Made {
     Definition(Definition),
 }
 
-/// What is handed on from stretch to stretch.
+/// What is handed on from stretch to stretch, with the table of kinds and the bounds, which stay.
 struct Handed<'b> {
+    table: &'b Table,
     bounds: &'b Bounds,
     /// The newest stands last.
     definitions: Vec<Definition>,
@@ -152,7 +153,7 @@ impl Handed<'_> {
             let Some(byte) = self.next(from, known)? else {
                 return ended(known, pieces);
             };
-            match signs::kind(byte) {
+            match self.table.kind(byte) {
                 signs::CALL => join(&mut pieces, self.call(from, known)?),
                 signs::QUOTE => self.quoted(from, known, &mut pieces)?,
                 signs::UNQUOTE => {
@@ -198,7 +199,7 @@ impl Handed<'_> {
                 assert!(known.body.is_none(), "a body never ends inside quotes");
                 return fault(17);
             };
-            match signs::kind(byte) {
+            match self.table.kind(byte) {
                 signs::UNQUOTE if inner == 0 => return Ok(()),
                 signs::UNQUOTE => inner -= 1,
                 signs::QUOTE => inner += 1,
@@ -395,7 +396,7 @@ impl Handed<'_> {
 /// The beginning and the end.
 impl<'b> Handed<'b> {
     /// "the definitions a run starts with (here the built-ins alone)"
-    fn at_first(bounds: &'b Bounds) -> Self {
+    fn at_first(table: &'b Table, bounds: &'b Bounds) -> Self {
         let built_ins = signs::BUILT_INS.iter().map(|&(name, built_in)| Definition {
             name: name.to_vec(),
             value: Value::BuiltIn(built_in),
@@ -404,6 +405,7 @@ impl<'b> Handed<'b> {
         });
         let definitions = built_ins.collect();
         Handed {
+            table,
             bounds,
             definitions,
             output: Vec::new(),

@@ -1,11 +1,13 @@
--- The clauses are the two laws of whole runs: what ends so is reported so, and demand 3 holds of every whole run.
-use mathlib.Core.Path.{sym, _∙_}
+-- With the standard signs the sizes alone decide.
+use mathlib.Core.Path.{refl, sym, _∙_}
 use denote.Ref.{now}
-use borrow.Author.Needs.{needs}
+use lib.ListN.{length}
 use Rattle.language.specs.Signs.{standard}
 use Rattle.language.specs.Expansion.{lent}
+use Rattle.language.proofs.Accepted.{standard-lent}
 use Rattle.expander.specs.Reports.{given}
-use Rattle.expander.proofs.Running.{reports, refuses, delivers, cellsFit}
+use Rattle.expander.proofs.Running.{large, delivers}
+use borrow.Author.Needs.{needs}
 use Rattle.expander.proofs.expand.Statement.{statement}
 use Rattle.expander.proofs.expand.Tie as tie
 
@@ -17,27 +19,18 @@ refused-requires c κs = search needs
 
 returns : tie.Need-returns
 returns c =
-    let b = c .before .before in
-    let a = b .before .before .before .before .args in
-    let m = lent (now (a .cells)) (now (a .output)) in
-    rw (c .refused .ensures)
-    (delivers standard (now (a .text)) m (a .allowance) _
-    (refuses (given standard (now (a .text)) m (a .allowance)) (sym (b .too-large .ensures) ∙ c .before .if1 .taken)))
+    let a = c .before .before .before .before .before .before .args in
+    let g = given standard (now (a .text)) (lent (now (a .cells)) (now (a .output))) (a .allowance) in
+    rw (c .refused .ensures) (delivers g refl _ (large g (sym (c .before .before .too-large .ensures) ∙ c .before .if1 .taken)))
 
 standard-kinds-requires : tie.Need-standard-kinds-requires
 standard-kinds-requires c κs = search needs
 
-run-to-end-requires : tie.Need-run-to-end-requires
-run-to-end-requires c κs =
-    let b = c .before .before .before .before in
-    let a = b .before .before .before .before .before .args in
-    cellsFit (given standard (now (a .text)) (lent (now (a .cells)) (now (a .output))) (a .allowance)) (sym (b .before .too-large .ensures) ∙ b .if1 .left)
-
-clear-requires : tie.Need-clear-requires
-clear-requires c κs = search needs
-
-of-requires : tie.Need-of-requires
-of-requires c κs = search needs
+expand-accepted-requires : tie.Need-expand-accepted-requires
+expand-accepted-requires c κs =
+    let a = c .before .before .before .before .before .before .before .before .before .args in
+    rw (c .before .before .before .standard-kinds .ensures)
+    (standard-lent (length (now (a .text))) (length (now (a .cells))) (length (now (a .output))) (sym (c .before .before .before .before .before .too-large .ensures) ∙ c .before .before .before .before .if1 .left))
 
 same-length : tie.Need-same-length
 same-length c = search needs
@@ -47,16 +40,9 @@ same-length-2 c = search needs
 
 returns-2 : tie.Need-returns-2
 returns-2 c =
-    let b = c .before .before .before in
-    let b₂ = b .before .before .before .before .before .before in
-    let b₃ = b₂ .before .before .before .before in
-    let b₄ = b₃ .before in
-    let a = b₄ .before .before .before .before .before .args in
-    let m = lent (now (a .cells)) (now (a .output)) in
-    let g = given standard (now (a .text)) m (a .allowance) in
-    delivers standard (now (a .text)) m (a .allowance) _
-    (rw (c .of .ensures, b .clear .ensures)
-    (reports g (rw (b₃ .standard-kinds .ensures) at (b₂ .run-to-end .ensures)) (b .before .before .before .before .before .cells .given) (sym (b₄ .before .too-large .ensures) ∙ b₄ .if1 .left)))
+    let a = c .before .before .before .before .before .before .before .before .before .before .before .before .before .before .args in
+    let g = given standard (now (a .text)) (lent (now (a .cells)) (now (a .output))) (a .allowance) in
+    delivers g refl _ (rw (c .before .before .before .before .before .before .before .before .standard-kinds .ensures) at (c .before .before .before .before .expand-accepted .ensures))
 
 pub expand-spec : {M : Type 1} → statement M
 expand-spec =
@@ -66,9 +52,7 @@ expand-spec =
     refused-requires
     returns
     standard-kinds-requires
-    run-to-end-requires
-    clear-requires
-    of-requires
+    expand-accepted-requires
     same-length
     same-length-2
     returns-2)

@@ -3,8 +3,10 @@ use crate::fetching::{self, Ways};
 use crate::lending;
 use crate::library;
 use crate::memory::Memory;
+use crate::script::Script;
 use reference::ends::{End, Report};
 use reference::scanning::{self, Lent};
+use reference::substitution::{substitute, Bounds};
 
 /// What a script's run is lent, and how it ends by scanning, with the ways that `~` went.
 pub struct Run {
@@ -14,14 +16,24 @@ pub struct Run {
 }
 
 impl Run {
-    pub fn new(text: &[u8], lent: Lent) -> Run {
+    pub fn new(script: &Script, lent: Lent) -> Run {
         let mut ways = Ways::default();
-        let scanned = scanning::run_traced(text, &lent, &mut |row| {
+        let scanned = scanning::run_traced(script.checked(), &script.text, &lent, &mut |row| {
             if let Some(way) = fetching::way(row) {
                 ways[way] = true;
             }
         });
         Run { lent, scanned, ways }
+    }
+}
+
+/// The end by substitution, none if it has none within the bounds; or the outcome that refuses the signs.
+pub type Substituted = Result<Option<End>, u64>;
+
+pub fn substituted(script: &Script, bounds: &Bounds) -> Substituted {
+    match script.checked() {
+        Ok(table) => Ok(substitute(&script.text, table, bounds)),
+        Err(outcome) => Err(*outcome),
     }
 }
 
@@ -31,16 +43,21 @@ pub struct Difference {
     pub run: Run,
     pub report: Report,
     pub output: Vec<u8>,
-    pub substituted: Option<End>,
+    pub substituted: Substituted,
 }
 
 /// The library's run must be that of scanning, leave the memory as document 01 says, and meet demand 3.
-pub fn check(memory: &mut Memory, text: &[u8], run: Run, substituted: &Option<End>) -> Result<Report, Box<Difference>> {
-    memory.lend(text, &run.lent);
-    let report = library::expand(memory, run.lent.allowance);
+pub fn check(
+    memory: &mut Memory,
+    script: &Script,
+    run: Run,
+    substituted: &Substituted,
+) -> Result<Report, Box<Difference>> {
+    memory.lend(script, &run.lent);
+    let report = library::expand(memory, script.signs().is_some(), run.lent.allowance);
     let checked = against_scanning(memory, &report, &run.scanned)
-        .and_then(|()| left(memory, text, &report))
-        .and_then(|()| against_substitution(memory, text, &report, &run, substituted));
+        .and_then(|()| left(memory, script, &report))
+        .and_then(|()| against_substitution(memory, script, &report, &run, substituted));
     checked.map(|()| report).map_err(|what| {
         let written = memory.output.lent().len().min(report.written as usize);
         let output = memory.output.lent()[..written].to_vec();
@@ -69,18 +86,24 @@ fn against_scanning(memory: &Memory, report: &Report, scanned: &End) -> Result<(
 }
 
 /// What the memory holds after the run.
-fn left(memory: &Memory, text: &[u8], report: &Report) -> Result<(), String> {
+fn left(memory: &Memory, script: &Script, report: &Report) -> Result<(), String> {
+    hold(memory.signs.guards_kept(), "memory beside the signs is changed")?;
     hold(memory.text.guards_kept(), "memory beside the text is changed")?;
     hold(memory.cells.guards_kept(), "memory beside the cells is changed")?;
     hold(memory.output.guards_kept(), "memory beside the output is changed")?;
-    hold(memory.text.lent() == text, "the text is changed")?;
+    let signs = script.signs().unwrap_or_default();
+    hold(memory.signs.lent() == signs, "the signs are changed")?;
+    hold(memory.text.lent() == script.text, "the text is changed")?;
     let written = report.written as usize;
     hold(
         memory.output.kept_from(written),
         "the output is changed past the bytes written",
     )?;
-    if report.outcome == 2 {
-        return hold(memory.cells.kept_from(0), "cells are changed, with outcome 2");
+    if matches!(report.outcome, 2 | 30..=32) {
+        return hold(
+            memory.cells.kept_from(0),
+            "cells are changed, though the call is refused",
+        );
     }
     zero(memory.cells.lent())
 }
@@ -94,19 +117,21 @@ fn zero(cells: &[u32]) -> Result<(), String> {
     Err(format!("cell {place} is {}, not zero", cells[place]))
 }
 
-/// Demand 3: the end of substitution wherever what is lent suffices for it, and else 3, 4 or 5.
+/// Demand 3: the end of substitution wherever what is lent suffices for it, and else 3, 4 or 5. A refused call has no
+/// end by substitution.
 fn against_substitution(
     memory: &Memory,
-    text: &[u8],
+    script: &Script,
     report: &Report,
     run: &Run,
-    substituted: &Option<End>,
+    substituted: &Substituted,
 ) -> Result<(), String> {
-    if lending::too_long(text, &run.lent) {
+    if lending::too_long(&script.text, &run.lent) {
         return hold(report.outcome == 2, "the outcome is not 2");
     }
     match substituted {
-        Some(end) if lending::suffices(&run.lent, &end.report) => {
+        Err(outcome) => hold(report.outcome == *outcome, "the signs are refused otherwise"),
+        Ok(Some(end)) if lending::suffices(&run.lent, &end.report) => {
             hold(*report == end.report, "the report is not that of substitution")?;
             hold(wrote(memory, end), "the output is not that of substitution")?;
             let same = run.scanned.standing == end.standing;
@@ -115,7 +140,7 @@ fn against_substitution(
                 "the definitions standing, by scanning, are not those of substitution",
             )
         }
-        _ => hold(
+        Ok(_) => hold(
             !lending::ended(report),
             "substitution has no such end within what was lent",
         ),

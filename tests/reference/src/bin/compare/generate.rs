@@ -2,7 +2,10 @@
 use crate::faults::PLANTED;
 use crate::grower::grown;
 use crate::noise;
+use crate::own_signs;
 use crate::random::Random;
+use crate::refused_signs;
+use crate::script::Script;
 
 /// How many items a script is grown from: mostly few, seldom hundreds.
 fn size(random: &mut Random) -> usize {
@@ -23,7 +26,7 @@ fn long(random: &mut Random) -> Vec<u8> {
     text
 }
 
-pub fn script(random: &mut Random) -> Vec<u8> {
+fn text(random: &mut Random) -> Vec<u8> {
     if random.one_in(2_500) {
         return long(random);
     }
@@ -43,5 +46,21 @@ pub fn script(random: &mut Random) -> Vec<u8> {
             noise::cut(script, random)
         }
         _ => grown(random, items, None),
+    }
+}
+
+/// A text whose signs are refused; often it is about the longest, so that 2 comes first.
+fn refused(text: Vec<u8>, random: &mut Random) -> Script {
+    let text = if random.one_in(40) { long(random) } else { text };
+    Script::new(text, Some(refused_signs::refused(random)))
+}
+
+/// Two of five have signs that are lent, and of these one in four is refused.
+pub fn script(random: &mut Random) -> Script {
+    let text = text(random);
+    match random.below(20) {
+        0..=1 => refused(text, random),
+        2..=7 => own_signs::written(text, random),
+        _ => Script::new(text, None),
     }
 }

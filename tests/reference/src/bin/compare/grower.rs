@@ -9,7 +9,8 @@ use crate::recursion;
 /// Few and short, so that names are found, defined again and updated. A body calls and updates names that stand before
 /// its own in this list, so that it ends and is not being read when it is updated.
 pub const NAMES: [&str; 11] = ["a", "b", "", "ab", "7", "k", "<>", "a,b", "mk", "\0é", "t"];
-pub const SIGNS: &[u8] = b"$,;~<>";
+/// The standard signs, with which scripts are grown.
+pub const SIGNS: &[u8; 6] = b"$,;~<>";
 
 /// Where an item stands.
 #[derive(Clone, Copy)]

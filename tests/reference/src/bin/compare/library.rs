@@ -13,15 +13,45 @@ extern "C" {
         output_length: usize,
         allowance: u64,
     ) -> Report;
+
+    fn gpm_expand_signs(
+        signs: *const u8,
+        signs_length: usize,
+        text: *const u8,
+        text_length: usize,
+        cells: *mut u32,
+        cells_length: usize,
+        output: *mut u8,
+        output_length: usize,
+        allowance: u64,
+    ) -> Report;
 }
 
-/// The run with what is lent now.
-pub fn expand(memory: &mut Memory, allowance: u64) -> Report {
+/// The run with what is lent now, under the signs lent or under the standard ones.
+pub fn expand(memory: &mut Memory, signs_lent: bool, allowance: u64) -> Report {
+    let signs_length = memory.signs.lent().len();
     let text_length = memory.text.lent().len();
     let cells_length = memory.cells.lent().len();
     let output_length = memory.output.lent().len();
-    let (text, cells, output) = (memory.text.pointer(), memory.cells.pointer(), memory.output.pointer());
-    // Sound: each pointer is aligned, not null and good for its length, the three areas are apart, and nothing else
-    // refers to them during the call.
-    unsafe { gpm_expand(text, text_length, cells, cells_length, output, output_length, allowance) }
+    let (signs, text) = (memory.signs.pointer(), memory.text.pointer());
+    let (cells, output) = (memory.cells.pointer(), memory.output.pointer());
+    // Sound, both: each pointer is aligned, not null and good for its length, the four areas are apart, and nothing
+    // else refers to them during the call.
+    if signs_lent {
+        unsafe {
+            gpm_expand_signs(
+                signs,
+                signs_length,
+                text,
+                text_length,
+                cells,
+                cells_length,
+                output,
+                output_length,
+                allowance,
+            )
+        }
+    } else {
+        unsafe { gpm_expand(text, text_length, cells, cells_length, output, output_length, allowance) }
+    }
 }

@@ -17,15 +17,20 @@ mod library;
 mod memory;
 mod noise;
 mod numbers;
+mod own_signs;
 mod random;
 mod recursion;
 mod reduce;
+mod refused_signs;
+mod script;
+mod signing;
 mod tally;
 mod tell;
 
 use check::Run;
 use memory::Memory;
 use random::Random;
+use script::Script;
 use std::panic::{self, AssertUnwindSafe};
 use std::process::ExitCode;
 use std::time::Instant;
@@ -35,27 +40,28 @@ use tally::Tally;
 const STACK: usize = 1 << 30;
 
 /// The script of a seed and a number, and its runs.
-fn script(seed: u64, number: u64) -> (Vec<u8>, Vec<Run>) {
+fn drawn(seed: u64, number: u64) -> (Script, Vec<Run>) {
     let mut random = Random::new(seed, number);
-    let text = generate::script(&mut random);
-    let runs = examine::runs(&text, &mut random);
-    (text, runs)
+    let script = generate::script(&mut random);
+    let runs = examine::runs(&script, &mut random);
+    (script, runs)
 }
 
 /// Whether one script shows no difference. A definition that breaks down is told as a difference is.
 fn passes(memory: &mut Memory, seed: u64, number: u64, tally: &mut Tally) -> bool {
     let examined = panic::catch_unwind(AssertUnwindSafe(|| {
-        let (text, runs) = script(seed, number);
-        examine::examine(memory, &text, runs, tally).map_err(|difference| (text, difference))
+        let (script, runs) = drawn(seed, number);
+        let examined = examine::examine(memory, &script, runs, tally);
+        (script, examined)
     }));
     match examined {
-        Ok(Ok(())) => return true,
-        Ok(Err((text, difference))) => {
+        Ok((_, Ok(()))) => return true,
+        Ok((script, Err(difference))) => {
             println!("seed {seed}, script {number}:");
-            tell::difference(&text, &difference);
-            let reduced = reduce::reduce(memory, &text, difference);
+            tell::difference(&script, &difference);
+            let reduced = reduce::reduce(memory, &script, difference);
             println!("reduced:");
-            tell::difference(&reduced.text, &reduced.difference);
+            tell::difference(&reduced.script, &reduced.difference);
         }
         Err(_) => println!("seed {seed}, script {number}: the comparison broke down"),
     }
@@ -65,7 +71,7 @@ fn passes(memory: &mut Memory, seed: u64, number: u64, tally: &mut Tally) -> boo
 /// All scripts of a seed up to a count, to the first difference.
 fn compare(memory: &mut Memory, seed: u64, count: u64) -> bool {
     let start = Instant::now();
-    let mut tally = Tally::default();
+    let mut tally = Tally::new();
     for number in 0..count {
         if !passes(memory, seed, number, &mut tally) {
             println!("{number} passed, 1 failed");
@@ -82,13 +88,13 @@ fn compare(memory: &mut Memory, seed: u64, count: u64) -> bool {
 
 /// One script, with all that its runs are lent.
 fn one(memory: &mut Memory, seed: u64, number: u64) -> bool {
-    let (text, runs) = script(seed, number);
-    tell::script(&text);
+    let (script, runs) = drawn(seed, number);
+    tell::script(&script);
     for run in &runs {
         tell::lent(&run.lent);
         tell::end("scanning", &run.scanned);
     }
-    let passed = passes(memory, seed, number, &mut Tally::default());
+    let passed = passes(memory, seed, number, &mut Tally::new());
     println!("{} passed, {} failed", u8::from(passed), u8::from(!passed));
     passed
 }

@@ -1,6 +1,7 @@
 //! The memory that is lent: full of rubbish, with guards around it that must keep theirs.
 use crate::lending::LONGEST;
 use crate::random::Random;
+use crate::script::Script;
 use reference::scanning::Lent;
 use std::ops::Range;
 
@@ -9,7 +10,7 @@ const GUARD: usize = 64;
 /// From where in the rubbish a run's may be taken.
 const ORIGINS: usize = 1_024;
 
-/// One of text, cells and output.
+/// One of signs, text, cells and output.
 pub struct Area<T> {
     rubbish: Vec<T>,
     bare: bool,
@@ -81,7 +82,16 @@ fn rubbish_cell(random: &mut Random) -> u32 {
     }
 }
 
+impl Area<u8> {
+    /// Lends these bytes.
+    fn lend_bytes(&mut self, bytes: &[u8], origin: usize) {
+        self.lend(bytes.len(), origin);
+        self.whole[self.lent.clone()].copy_from_slice(bytes);
+    }
+}
+
 pub struct Memory {
+    pub signs: Area<u8>,
     pub text: Area<u8>,
     pub cells: Area<u32>,
     pub output: Area<u8>,
@@ -92,18 +102,22 @@ impl Memory {
     pub fn new(bare: bool) -> Memory {
         let mut random = Random::new(0, 0);
         Memory {
+            signs: Area::new(bare, || random.byte()),
             text: Area::new(bare, || random.byte()),
             cells: Area::new(bare, || rubbish_cell(&mut random)),
             output: Area::new(bare, || random.byte()),
         }
     }
 
-    /// Lends a text, cells and output, with rubbish that the text and the sizes alone decide.
-    pub fn lend(&mut self, text: &[u8], lent: &Lent) {
+    /// Lends signs, a text, cells and output, with rubbish that the text and the sizes alone decide. The signs are
+    /// aligned otherwise than the rest.
+    pub fn lend(&mut self, script: &Script, lent: &Lent) {
+        let text = &script.text;
         let origin = (text.len() * 31 + lent.cells * 7 + lent.output) % ORIGINS;
-        self.text.lend(text.len(), origin);
-        let places = self.text.lent.clone();
-        self.text.whole[places].copy_from_slice(text);
+        let signs = script.signs().unwrap_or_default();
+        self.signs
+            .lend_bytes(signs, (text.len() * 3 + lent.allowance as usize % ORIGINS) % ORIGINS);
+        self.text.lend_bytes(text, origin);
         self.cells.lend(lent.cells, origin);
         self.output.lend(lent.output, origin);
     }

@@ -1,43 +1,68 @@
-//! How often each outcome was come to, and each way that `~` went.
+//! How often each outcome was come to, each way that `~` went, and each row about signs that are lent.
 use crate::fetching::{Ways, WAYS};
+use crate::script::Script;
+use crate::signing::{self, ROWS};
 use reference::ends::Report;
 
-const OUTCOMES: usize = 25;
-/// The ways are counted in the places after the outcomes.
-const PLACES: usize = OUTCOMES + WAYS.len();
+const OUTCOMES: usize = 33;
+/// The ways are counted in the places after the outcomes, and the rows in those after the ways.
+const FIRST_ROW: usize = OUTCOMES + WAYS.len();
+const PLACES: usize = FIRST_ROW + ROWS.len();
 
 /// Each must occur, so that a comparison that never comes to it does not pass. Few texts are so long as to give 2, and
-/// 6 to 9 are no outcomes.
+/// 6 to 9 and 25 to 29 are no outcomes.
 fn asked(place: usize) -> bool {
-    !matches!(place, 2 | 6..=9)
-}
-
-fn label(place: usize) -> String {
-    match place.checked_sub(OUTCOMES) {
-        Some(way) => WAYS[way].to_string(),
-        None => place.to_string(),
+    match place.checked_sub(FIRST_ROW) {
+        Some(row) => ROWS[row].1,
+        None => !matches!(place, 2 | 6..=9 | 25..=29),
     }
 }
 
-#[derive(Default)]
+fn label(place: usize) -> String {
+    match place {
+        FIRST_ROW.. => ROWS[place - FIRST_ROW].0.to_string(),
+        OUTCOMES.. => WAYS[place - OUTCOMES].to_string(),
+        _ => place.to_string(),
+    }
+}
+
+/// The places that a run counts in.
+fn places<'a>(script: &'a Script, report: &'a Report, ways: &'a Ways) -> impl Iterator<Item = usize> + 'a {
+    let ways = (0..WAYS.len()).filter(|&way| ways[way]).map(|way| OUTCOMES + way);
+    let rows = signing::rows(script, report).into_iter();
+    ways.chain(rows.map(|row| FIRST_ROW + row))
+        .chain([report.outcome as usize])
+}
+
 pub struct Tally {
     all: [u64; PLACES],
     with_plenty: [u64; PLACES],
-    /// Finished with 0 after reading bodies, with plenty lent: more scans than bytes of text.
+    /// Scripts whose signs were lent.
+    signs_lent: u64,
+    /// Finished with 0 after reading bodies, with plenty lent.
     worked: u64,
     scans: u64,
 }
 
 impl Tally {
-    pub fn count(&mut self, report: &Report, ways: &Ways, plenty: bool) {
-        let outcome = report.outcome as usize;
-        let gone = (0..WAYS.len()).filter(|&way| ways[way]).map(|way| OUTCOMES + way);
-        for place in gone.chain([outcome]) {
+    pub fn new() -> Tally {
+        Tally {
+            all: [0; PLACES],
+            with_plenty: [0; PLACES],
+            signs_lent: 0,
+            worked: 0,
+            scans: 0,
+        }
+    }
+
+    pub fn count(&mut self, script: &Script, report: &Report, ways: &Ways, plenty: bool) {
+        for place in places(script, report, ways) {
             self.all[place] += 1;
             self.with_plenty[place] += u64::from(plenty);
         }
+        self.signs_lent += u64::from(plenty && script.signs().is_some());
+        self.worked += u64::from(plenty && signing::finished_after_bodies(report));
         self.scans += report.scans;
-        self.worked += u64::from(plenty && outcome == 0 && report.scans > report.read + 1);
     }
 
     fn too_few(&self, place: usize, scripts: u64) -> bool {
@@ -55,12 +80,12 @@ impl Tally {
     }
 
     pub fn print(&self, scripts: u64) {
-        println!("{:>14}  in all checks  with plenty lent", "outcome");
+        println!("{:>22}  in all checks  with plenty lent", "outcome");
         for (place, (all, with_plenty)) in self.all.iter().zip(self.with_plenty).enumerate() {
             let few = self.too_few(place, scripts);
             if *all > 0 || few {
                 println!(
-                    "{:>14}{all:15}{with_plenty:18}{}",
+                    "{:>22}{all:15}{with_plenty:18}{}",
                     label(place),
                     if few { "  too few" } else { "" }
                 );
@@ -68,8 +93,8 @@ impl Tally {
         }
         let checks: u64 = self.all[..OUTCOMES].iter().sum();
         println!(
-            "{scripts} scripts, {checks} checks, {} scans; {} finished with 0 after reading bodies",
-            self.scans, self.worked
+            "{scripts} scripts, {} with signs lent, {checks} checks, {} scans; {} finished with 0 after reading bodies",
+            self.signs_lent, self.scans, self.worked
         );
     }
 }

@@ -1,5 +1,6 @@
 //! What is printed about a script and about a difference.
 use crate::check::Difference;
+use crate::script::Script;
 use reference::ends::{End, Report};
 use reference::scanning::Lent;
 
@@ -7,9 +8,24 @@ fn hex(bytes: &[u8]) -> String {
     bytes.iter().map(|byte| format!("{byte:02x}")).collect()
 }
 
-pub fn script(text: &[u8]) {
+pub fn script(script: &Script) {
+    let text = &script.text;
     println!("  script ({} bytes): {}", text.len(), text.escape_ascii());
     println!("  in hex: {}", hex(text));
+    match script.signs() {
+        Some(lent) if lent.len() == 256 => println!("  signs lent, each with its kind: {}", kinds(lent)),
+        Some(lent) => println!("  signs lent ({} bytes), in hex: {}", lent.len(), hex(lent)),
+        None => println!("  no signs lent"),
+    }
+}
+
+/// The bytes whose entry is not 0.
+fn kinds(entries: &[u8]) -> String {
+    let signs = (0..=u8::MAX).zip(entries).filter(|(_, &kind)| kind > 0);
+    let told: Vec<String> = signs
+        .map(|(byte, kind)| format!("{} {kind}", [byte].escape_ascii()))
+        .collect();
+    told.join("  ")
 }
 
 pub fn lent(lent: &Lent) {
@@ -35,14 +51,15 @@ pub fn end(who: &str, end: &End) {
     }
 }
 
-pub fn difference(text: &[u8], difference: &Difference) {
+pub fn difference(of: &Script, difference: &Difference) {
     println!("  {}", difference.what);
-    script(text);
+    script(of);
     lent(&difference.run.lent);
     run("library", &difference.report, &difference.output);
     end("scanning", &difference.run.scanned);
     match &difference.substituted {
-        Some(substituted) => end("substitution", substituted),
-        None => println!("  substitution: no end within the bounds"),
+        Ok(Some(substituted)) => end("substitution", substituted),
+        Ok(None) => println!("  substitution: no end within the bounds"),
+        Err(outcome) => println!("  substitution: the signs are refused with {outcome}"),
     }
 }
