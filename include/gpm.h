@@ -1,10 +1,11 @@
 /*
  * Vuzhatten: Strachey's General Purpose Macrogenerator in lent memory, for C11 and C++17 on x86-64.
  *
- * One call expands one text. It allocates nothing, keeps nothing between calls and calls nothing of the
- * operating system; calls on memory of their own may run at the same time. It always returns, after at most
- * `allowance` scans. What it reports and leaves is proved, for every text and all lent memory, where the
- * caller keeps what "The caller" asks below.
+ * One call expands one text: gpm_expand with the standard signs $ , ; ~ < >, gpm_expand_signs with signs of the
+ * caller's own. It allocates nothing, keeps nothing between calls and calls nothing of the operating system; calls
+ * on memory of their own may run at the same time. It always returns, after at most `allowance` scans. What it
+ * reports and leaves is proved, for every text, all signs and all lent memory, where the caller keeps what "The
+ * caller" asks below.
  */
 #ifndef GPM_H
 #define GPM_H
@@ -21,7 +22,8 @@ extern "C" {
 #define GPM_CELLS_LIMIT 65536  /* cells of 32 bits */
 #define GPM_OUTPUT_LIMIT 65536 /* bytes of output */
 
-/* How a run ended. 0 and 1 finish it, 2 to 5 are about what was lent, 10 to 24 are faults of the text. */
+/* How a run ended. 0 and 1 finish it, 2 to 5 are about what was lent, 10 to 24 are faults of the text, and 30 to 32
+ * refuse signs. Below the standard signs stand for those in force. */
 enum gpm_outcome {
     GPM_FINISHED = 0,             /* the text ended outside quotes and calls */
     GPM_FINISHED_AT_QUOTE = 1,    /* an unquoted > in the text, no call being collected; the rest is unread */
@@ -43,11 +45,50 @@ enum gpm_outcome {
     GPM_UPDATE_TOO_LONG = 21,     /* UPDATE longer than the value first defined */
     GPM_NOT_A_NUMBER = 22,        /* an operand is not a number in range */
     GPM_DIVISOR_ZERO = 23,        /* the divisor is zero */
-    GPM_RESULT_OUT_OF_RANGE = 24  /* the result is out of range */
+    GPM_RESULT_OUT_OF_RANGE = 24, /* the result is out of range */
+    GPM_NOT_A_TABLE = 30,         /* the signs are not 256 bytes, or one is above 6: all counts 0, nothing touched */
+    GPM_SIGN_NOT_ONE_BYTE = 31,   /* a kind from 1 to 6 is that of no byte or of several: the same */
+    GPM_RESERVED_SIGN = 32        /* a letter, a digit, +, - or * is a sign: the same */
 };
 
 /* The name of 12 before letters stood for parameters, for programs that have it. */
 #define GPM_PARAMETER_NOT_DIGIT GPM_FETCHES_NOTHING
+
+/*
+ * Signs are a table of 256 bytes: for each byte its kind. An accepted one has each kind from 1 to 6 for exactly one
+ * byte, and no letter, digit, +, - or * among these.
+ */
+#define GPM_SIGNS_LENGTH 256
+
+enum gpm_kind {
+    GPM_KIND_PLAIN = 0,
+    GPM_KIND_OPENS = 1,     /* $ begins a call */
+    GPM_KIND_SEPARATES = 2, /* , separates arguments */
+    GPM_KIND_APPLIES = 3,   /* ; applies a call */
+    GPM_KIND_FETCHES = 4,   /* ~ fetches a parameter */
+    GPM_KIND_QUOTES = 5,    /* < begins a quotation */
+    GPM_KIND_UNQUOTES = 6   /* > ends it */
+};
+
+/* The standard signs, to begin a table of one's own with: uint8_t signs[GPM_SIGNS_LENGTH] = GPM_STANDARD_SIGNS; */
+#define GPM_STANDARD_SIGNS { \
+    0, 0, 0, 0, 0, 0, 0, 0, 0, 0, 0, 0, 0, 0, 0, 0, \
+    0, 0, 0, 0, 0, 0, 0, 0, 0, 0, 0, 0, 0, 0, 0, 0, \
+    0, 0, 0, 0, 1, 0, 0, 0, 0, 0, 0, 0, 2, 0, 0, 0, \
+    0, 0, 0, 0, 0, 0, 0, 0, 0, 0, 0, 3, 5, 0, 6, 0, \
+    0, 0, 0, 0, 0, 0, 0, 0, 0, 0, 0, 0, 0, 0, 0, 0, \
+    0, 0, 0, 0, 0, 0, 0, 0, 0, 0, 0, 0, 0, 0, 0, 0, \
+    0, 0, 0, 0, 0, 0, 0, 0, 0, 0, 0, 0, 0, 0, 0, 0, \
+    0, 0, 0, 0, 0, 0, 0, 0, 0, 0, 0, 0, 0, 0, 4, 0, \
+    0, 0, 0, 0, 0, 0, 0, 0, 0, 0, 0, 0, 0, 0, 0, 0, \
+    0, 0, 0, 0, 0, 0, 0, 0, 0, 0, 0, 0, 0, 0, 0, 0, \
+    0, 0, 0, 0, 0, 0, 0, 0, 0, 0, 0, 0, 0, 0, 0, 0, \
+    0, 0, 0, 0, 0, 0, 0, 0, 0, 0, 0, 0, 0, 0, 0, 0, \
+    0, 0, 0, 0, 0, 0, 0, 0, 0, 0, 0, 0, 0, 0, 0, 0, \
+    0, 0, 0, 0, 0, 0, 0, 0, 0, 0, 0, 0, 0, 0, 0, 0, \
+    0, 0, 0, 0, 0, 0, 0, 0, 0, 0, 0, 0, 0, 0, 0, 0, \
+    0, 0, 0, 0, 0, 0, 0, 0, 0, 0, 0, 0, 0, 0, 0, 0 \
+}
 
 /* What a run reports. The byte at which a run is refused counts as read, and that scan counts. */
 typedef struct gpm_report {
@@ -60,7 +101,7 @@ typedef struct gpm_report {
 } gpm_report;
 
 /*
- * Expands a text.
+ * Expands a text with the standard signs.
  *
  * With outcome 0, 1, 3, 4, 5 or 10 to 24: the first report.written bytes of the output are the text's expansion
  * so far, the bytes behind them are as they were, and all cells are 0.
@@ -73,6 +114,19 @@ typedef struct gpm_report {
  */
 gpm_report gpm_expand(const uint8_t *text, size_t text_length, uint32_t *cells, size_t cells_length, uint8_t *output,
                       size_t output_length, uint64_t allowance);
+
+/*
+ * The same with the caller's own signs in place of the standard ones; with GPM_STANDARD_SIGNS it is gpm_expand.
+ *
+ * The checks are made in the order 2, 30, 31, 32, and the first that holds is the outcome, with all counts 0 and
+ * nothing touched. The signs may have any length and content, and are never written.
+ *
+ * The caller: as above; the signs point to as many bytes as their length says, and not to NULL, and overlap neither
+ * cells nor output; nothing else writes them before the call returns.
+ */
+gpm_report gpm_expand_signs(const uint8_t *signs, size_t signs_length, const uint8_t *text, size_t text_length,
+                            uint32_t *cells, size_t cells_length, uint8_t *output, size_t output_length,
+                            uint64_t allowance);
 
 #ifdef __cplusplus
 }

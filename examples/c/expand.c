@@ -43,6 +43,9 @@ static const char *in_words(uint64_t outcome)
     case GPM_NOT_A_NUMBER: return "an operand is not a number in range";
     case GPM_DIVISOR_ZERO: return "the divisor is zero";
     case GPM_RESULT_OUT_OF_RANGE: return "a result is out of range";
+    case GPM_NOT_A_TABLE: return "the signs are no table of 256 kinds";
+    case GPM_SIGN_NOT_ONE_BYTE: return "a sign has no byte or several";
+    case GPM_RESERVED_SIGN: return "a letter, a digit, +, - or * is a sign";
     }
     return "an outcome that gpm.h does not have";
 }

@@ -31,11 +31,7 @@ pub struct Report {
 pub fn expand(text: &[u8], cells: &mut [u32], output: &mut [u8], allowance: u64) -> Report
     ensures { λ r. ⌜ Expanded (given standard (now (text .entry)) (lent (now (cells .entry)) (now (output .entry))) allowance) (returned r (lent (now (cells .exit)) (now (output .exit)))) ⌝ }
 {
-    let sizes = Sizes {
-        text: text.len(),
-        cells: cells.len(),
-        output: output.len(),
-    };
+    let sizes = sizes_of(text, cells, output);
     if sizes.too_large() {
         return Report::refused(outcomes::TOO_LARGE);
     }
@@ -53,11 +49,7 @@ pub fn expand_signs(
 ) -> Report
     ensures { λ r. ⌜ Expanded (given (now (signs .entry)) (now (text .entry)) (lent (now (cells .entry)) (now (output .entry))) allowance) (returned r (lent (now (cells .exit)) (now (output .exit)))) ⌝ }
 {
-    let sizes = Sizes {
-        text: text.len(),
-        cells: cells.len(),
-        output: output.len(),
-    };
+    let sizes = sizes_of(text, cells, output);
     let verdict = Verdict::on_lent(sizes, signs);
     if let Verdict::Refused(outcome) = verdict {
         return Report::refused(outcome);
@@ -90,6 +82,17 @@ pub extern "C" fn gpm_expand_signs(
     ensures { λ r. ⌜ Expanded (given (now (signs .entry)) (now (text .entry)) (lent (now (cells .entry)) (now (output .entry))) allowance) (returned r (lent (now (cells .exit)) (now (output .exit)))) ⌝ }
 {
     expand_signs(signs, text, cells, output, allowance)
+}
+
+// What is measured against the limits.
+fn sizes_of(text: &[u8], cells: &[u32], output: &[u8]) -> Sizes
+    ensures { λ r. ⌜ r ≡ record { text = length (now (text .entry)); cells = length (now (cells .entry)); output = length (now (output .entry)) } ⌝ }
+{
+    Sizes {
+        text: text.len(),
+        cells: cells.len(),
+        output: output.len(),
+    }
 }
 
 // A call that is not refused: the run to its end, the cells cleared, the report.
