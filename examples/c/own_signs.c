@@ -1,12 +1,12 @@
 /*
- * Expands a script for a maker whose key names have $ and ; in them: there # begins a call and | applies it.
+ * Expands a script for a maker whose key names have $ and ; in them: there # begins a call and ! applies it.
  * The exit status is 0 where the run finished and its output is written, and 1 where it is not.
  */
 #include "gpm.h"
 
 #include <stdio.h>
 
-static const char script[] = "#DEF,stake,<[$~1][;OK]>|#stake,5|#stake,10|\n";
+static const char script[] = "#DEF,stake,<[$~1][;OK]>!#stake,5!#stake,10!\n";
 
 /* The standard signs, until some are moved. */
 static uint8_t signs[GPM_SIGNS_LENGTH] = GPM_STANDARD_SIGNS;
@@ -25,7 +25,7 @@ int main(void)
     gpm_report report;
 
     move_sign('$', '#');
-    move_sign(';', '|');
+    move_sign(';', '!');
     report = gpm_expand_signs(signs, sizeof signs, (const uint8_t *)script, sizeof script - 1, cells,
                               sizeof cells / sizeof cells[0], output, sizeof output, 100000);
     if (report.outcome != GPM_FINISHED) {
