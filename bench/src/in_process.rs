@@ -14,14 +14,17 @@ pub struct Pair {
     pub reference: f64,
 }
 
+/// One of the library's calls, on a text.
+pub type Call = fn(&mut Memory, &[u8]) -> Report;
+
 /// A workload, and the end that every run of it must come to.
-struct Work<'a> {
+pub struct Work<'a> {
     workload: &'a Workload,
     expected: End,
 }
 
 impl<'a> Work<'a> {
-    fn of(workload: &'a Workload) -> Work<'a> {
+    pub fn of(workload: &'a Workload) -> Work<'a> {
         let expected = reference_end(workload);
         let name = &workload.name;
         assert_eq!(expected.report.outcome, 0, "{name}: the reference refuses it");
@@ -32,18 +35,22 @@ impl<'a> Work<'a> {
         Work { workload, expected }
     }
 
-    fn library(&self) -> Contender<'_> {
+    pub fn report(&self) -> Report {
+        self.expected.report
+    }
+
+    pub fn library(&self, call: Call) -> Contender<'_> {
         let mut memory = Memory::new();
-        Box::new(move || mean(|| self.library_run(&mut memory)))
+        Box::new(move || mean(|| self.library_run(&mut memory, call)))
     }
 
     fn reference(&self) -> Contender<'_> {
         Box::new(|| mean(|| self.reference_run()))
     }
 
-    fn library_run(&self, memory: &mut Memory) -> Duration {
+    fn library_run(&self, memory: &mut Memory, call: Call) -> Duration {
         memory.wipe();
-        let (report, time) = timed(|| memory.expand(self.workload.gpm.as_bytes()));
+        let (report, time) = timed(|| call(memory, self.workload.gpm.as_bytes()));
         self.check("library", &report, memory.written(&report));
         time
     }
@@ -72,11 +79,11 @@ pub fn compare(workloads: &[Workload], rounds: usize) -> Vec<Pair> {
     let works: Vec<Work> = workloads.iter().map(Work::of).collect();
     let contenders = works
         .iter()
-        .flat_map(|work| [work.library(), work.reference()])
+        .flat_map(|work| [work.library(Memory::expand), work.reference()])
         .collect();
     let times = best(rounds, contenders);
     let pair = |(work, times): (&Work, &[f64])| Pair {
-        report: work.expected.report,
+        report: work.report(),
         library: times[0],
         reference: times[1],
     };

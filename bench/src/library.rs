@@ -1,10 +1,23 @@
 //! The product, called as C calls it.
 use reference::ends::Report;
 use reference::scanning::Lent;
+use reference::signs::Table;
 
 #[link(name = "expander", kind = "static")]
 extern "C" {
     fn gpm_expand(
+        text: *const u8,
+        text_length: usize,
+        cells: *mut u32,
+        cells_length: usize,
+        output: *mut u8,
+        output_length: usize,
+        allowance: u64,
+    ) -> Report;
+
+    fn gpm_expand_signs(
+        signs: *const u8,
+        signs_length: usize,
         text: *const u8,
         text_length: usize,
         cells: *mut u32,
@@ -38,6 +51,25 @@ impl Memory {
         // Safety: each pointer is that of a live slice and goes with its length; only cells and output are written.
         unsafe {
             gpm_expand(
+                text.as_ptr(),
+                text.len(),
+                self.cells.as_mut_ptr(),
+                self.cells.len(),
+                self.output.as_mut_ptr(),
+                self.output.len(),
+                Lent::PROGRAM.allowance,
+            )
+        }
+    }
+
+    /// The same with the standard signs lent, which are checked.
+    pub fn expand_signs(&mut self, text: &[u8]) -> Report {
+        let signs = Table::STANDARD;
+        // Safety: as above; the signs are a live slice too.
+        unsafe {
+            gpm_expand_signs(
+                signs.kinds().as_ptr(),
+                signs.kinds().len(),
                 text.as_ptr(),
                 text.len(),
                 self.cells.as_mut_ptr(),

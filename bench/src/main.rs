@@ -8,6 +8,7 @@ mod machine;
 mod markdown;
 mod processes;
 mod profile;
+mod signs;
 mod timing;
 mod workloads;
 
@@ -78,12 +79,14 @@ fn measured(request: &Request) -> String {
     let workloads = workloads::all();
     let machine = machine::described(programs.m4.as_deref());
     let in_process = in_process::table(&workloads, *rounds);
+    let signs = signs::table(*rounds);
     let processes = processes::table(&programs, &workloads, *rounds);
     let growth = growth::tables(&programs, *rounds);
     let profile = profile::table(root, &workloads);
     format!(
         "Best of {rounds} rounds.\n\n{machine}\n\
          ### In process: the library and the reference\n\n{in_process}\n\
+         ### Lent signs: gpm_expand_signs and gpm_expand\n\n{signs}\n\
          ### Whole processes: gpm and m4\n\n{processes}\n\
          ### Growth\n\n{growth}\n\
          ### Instructions of the library\n\n{profile}"

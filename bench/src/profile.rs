@@ -23,7 +23,7 @@ impl Counts {
             let count = digits.replace(',', "").parse().unwrap_or(0);
             if line.contains("PROGRAM TOTALS") {
                 counts.all = count;
-            } else if line.contains(":gpm_expand ") {
+            } else if line.contains(":expander::expand_accepted ") {
                 counts.scanning = count;
             } else if line.contains("lookup::newest ") {
                 counts.finding = count;

@@ -170,15 +170,17 @@ pub refuses : (g : Given) (outcome : ℕ) → refusedBy (refusals g) ≡ some ou
 unfolding expanded
 refuses g outcome refused = rw refused refl
 
+abbrev tooLarge : Given → Bool
+tooLarge g = sizesTooLarge (length (g .text)) (length (g .lent .cells)) (length (g .lent .output))
+
 -- as where a size is too large
-pub large : (g : Given) → sizesTooLarge (length (g .text)) (length (g .lent .cells)) (length (g .lent .output)) ≡ true
-    → returned (refusedWith Outcomes.tooLarge) (g .lent) ≡ expanded g
+pub large : (g : Given) → tooLarge g ≡ true → returned (refusedWith Outcomes.tooLarge) (g .lent) ≡ expanded g
 unfolding refusedBy
-large g tooLarge = refuses g Outcomes.tooLarge (rw tooLarge refl)
+large g e = refuses g Outcomes.tooLarge (rw e refl)
 
 -- what is not refused has few enough cells, and 256 signs
 module _ (g : Given) (accepted : refusedBy (refusals g) ≡ none) where
-  fits : (sizesTooLarge (length (g .text)) (length (g .lent .cells)) (length (g .lent .output)) ≡ false) × AcceptedTable (g .table)
+  fits : (tooLarge g ≡ false) × AcceptedTable (g .table)
   fits = lent-accepted (length (g .text)) (length (g .lent .cells)) (length (g .lent .output)) (g .table) accepted
 
   pub cellsFit : length (g .lent .cells) ≤ cellsLimit

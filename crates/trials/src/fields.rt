@@ -38,9 +38,14 @@ fn start_of(row: &[u8], number: usize) -> usize
     at
 }
 
-pub(crate) fn field(row: &[u8], number: usize) -> &[u8] {
+// The field with this number and those behind it.
+pub(crate) fn from(row: &[u8], number: usize) -> &[u8] {
     let at = start_of(row, number);
-    up_to(&row[at..], b'\t')
+    &row[at..]
+}
+
+pub(crate) fn field(row: &[u8], number: usize) -> &[u8] {
+    up_to(from(row, number), b'\t')
 }
 
 pub(crate) fn number(row: &[u8], number: usize) -> u32 {
@@ -62,19 +67,19 @@ fn value(digits: &[u8]) -> u32 {
         if value >= 100000000 {
             return NONE;
         }
-        value = value * 10 + digit;
+        value = value * 10 + digit as u32;
         at += 1;
     }
     value
 }
 
 // The value of a digit, and 10 for any other byte.
-fn digit(byte: u8) -> u32 {
+pub(crate) fn digit(byte: u8) -> u8 {
     if byte < b'0' {
         return 10;
     }
     if byte > b'9' {
         return 10;
     }
-    (byte - b'0') as u32
+    byte - b'0'
 }

@@ -1,7 +1,10 @@
-// A trial of the expander: it is lent parts of larger arrays that hold a pattern, and all of them are looked at afterwards.
+// A trial of the expander: it is lent parts of larger arrays that hold a pattern, and all that it could write to is looked at
+// afterwards.
 use crate::pattern;
 use expander::Report;
 use language::Sizes;
+ghost use Prim.Native.Nat.{_+_, _≤_};
+ghost use lib.ListN.{length};
 
 // How many elements lie in front of a lent part and, at least, behind it.
 const MARGIN: usize = 32;
@@ -11,22 +14,41 @@ const MOST_CELLS: usize = Sizes::CELLS_LIMIT + 1;
 
 const MOST_OUTPUT: usize = Sizes::OUTPUT_LIMIT + 1;
 
+// Far more than the 256 that it takes.
+pub(crate) const MOST_SIGNS: usize = 65536;
+
 const CELLS_ROOM: usize = MOST_CELLS + 2 * MARGIN;
 
 const OUTPUT_ROOM: usize = MOST_OUTPUT + 2 * MARGIN;
 
-// What a trial lends.
+const SIGNS_ROOM: usize = MOST_SIGNS + 2 * MARGIN;
+
+// The call that is tried.
+pub(crate) enum Call {
+    Expand,
+    ExpandSigns,
+}
+
+// What a trial lends beside the signs and the text.
 pub(crate) struct Lent {
     pub(crate) cells: usize,
     pub(crate) output: usize,
     pub(crate) allowance: u64,
 }
 
-// Whether a run gives this report and this output, and leaves all lent memory and what lies around it as it should.
-pub(crate) fn is_right(text: &[u8], lent: Lent, report: Report, output: &[u8]) -> bool {
+// Whether a call gives this report and this output, and leaves all lent memory and what lies around it as it should. The
+// signs are for `ExpandSigns` alone.
+pub(crate) fn is_right(
+    call: Call,
+    signs: &[u8],
+    text: &[u8],
+    lent: Lent,
+    report: Report,
+    output: &[u8],
+) -> bool {
     let mut cells = [0u32; CELLS_ROOM];
     let mut bytes = [0u8; OUTPUT_ROOM];
-    let got = run(text, lent, &mut cells, &mut bytes);
+    let got = run(call, signs, text, lent, &mut cells, &mut bytes);
     if !is_same(got, report) {
         return false;
     }
@@ -42,7 +64,14 @@ pub(crate) fn is_right(text: &[u8], lent: Lent, report: Report, output: &[u8]) -
 }
 
 // Fills the arrays with the pattern and runs the text on parts of them.
-fn run(text: &[u8], lent: Lent, cells: &mut [u32], bytes: &mut [u8]) -> Report {
+fn run(
+    call: Call,
+    signs: &[u8],
+    text: &[u8],
+    lent: Lent,
+    cells: &mut [u32],
+    bytes: &mut [u8],
+) -> Report {
     pattern::fill_cells(cells);
     pattern::fill_bytes(bytes);
     if lent.cells > MOST_CELLS {
@@ -56,12 +85,38 @@ fn run(text: &[u8], lent: Lent, cells: &mut [u32], bytes: &mut [u8]) -> Report {
     if cells_end > cells.len() || bytes_end > bytes.len() {
         return nothing();
     }
-    expander::expand(
-        text,
-        &mut cells[MARGIN..cells_end],
-        &mut bytes[MARGIN..bytes_end],
-        lent.allowance,
-    )
+    let cells = &mut cells[MARGIN..cells_end];
+    let output = &mut bytes[MARGIN..bytes_end];
+    match call {
+        Call::Expand => expander::expand(text, cells, output, lent.allowance),
+        Call::ExpandSigns => expand_signs(signs, text, cells, output, lent.allowance),
+    }
+}
+
+// The signs are lent as a part of a larger array too, in which nothing beside them is a kind.
+fn expand_signs(
+    signs: &[u8],
+    text: &[u8],
+    cells: &mut [u32],
+    output: &mut [u8],
+    allowance: u64,
+) -> Report {
+    if signs.len() > MOST_SIGNS {
+        return nothing();
+    }
+    let mut room = [0u8; SIGNS_ROOM];
+    lay(signs, &mut room);
+    let end = MARGIN + signs.len();
+    expander::expand_signs(&room[MARGIN..end], text, cells, output, allowance)
+}
+
+// The signs behind a margin, and the pattern around them.
+fn lay(signs: &[u8], room: &mut [u8])
+    requires { ⌜ 32 + length (now signs) ≤ length (now room) ⌝ }
+{
+    pattern::fill_bytes(room);
+    let end = MARGIN + signs.len();
+    bytes::copy(signs, &mut room[MARGIN..end]);
 }
 
 // A report that no run gives, for what cannot be lent.
@@ -107,9 +162,9 @@ fn output_is_right(bytes: &[u8], output: &[u8], before: &[u8]) -> bool {
     check::same(&bytes[end..], &before[end..])
 }
 
-// Whether the lent cells are zero, or as before with outcome 2, and all others as before.
+// Whether the lent cells are zero, or as before where the call is refused, and all others as before.
 fn cells_are_right(cells: &[u32], lent: usize, outcome: u64) -> bool {
-    if outcome == 2 {
+    if is_refused(outcome) {
         return pattern::has_cells(cells, 0, cells.len());
     }
     if lent > MOST_CELLS {
@@ -123,4 +178,12 @@ fn cells_are_right(cells: &[u32], lent: usize, outcome: u64) -> bool {
         return false;
     }
     pattern::has_cells(cells, end, cells.len())
+}
+
+// Whether this is the outcome of a call that touches nothing: sizes or signs that are not taken.
+fn is_refused(outcome: u64) -> bool {
+    match outcome {
+        2 | 30..=32 => true,
+        _ => false,
+    }
 }

@@ -1,22 +1,24 @@
-// Runs the expander on every row of scripts.tsv and on texts, cells and output of every size about the limits. Writes a line
-// for each run that is wrong and, at the end of each part, how many runs there were.
+// Runs the expander on every row of scripts.tsv and of signs.tsv, and on texts, cells and output of every size about the
+// limits. Writes a line for each run that is wrong and, at the end of each part, how many runs there were.
 mod fields;
 mod lending;
 mod pattern;
 mod rows;
+mod signs;
 mod sizes;
 
+use crate::rows::File;
 use libc::STDOUT_FILENO;
 
 fn main() {
-    try_file();
+    try_file(b"scripts.tsv", File::Scripts, b" rows, ");
+    try_file(b"signs.tsv", File::Signs, b" signs, ");
     let text = [b'x'; sizes::LONGEST];
     let wrong = sizes::try_all(&text);
     count(sizes::RUNS, b" sizes, ", wrong);
 }
 
-fn try_file() {
-    let path = b"scripts.tsv";
+fn try_file(path: &[u8], file: File, name: &[u8]) {
     let fd = os::open_read(path);
     if fd < 0 {
         os::fail(path);
@@ -25,8 +27,8 @@ fn try_file() {
     let mut text = io::large_buffer();
     let len = io::read_full(fd, &mut text);
     libc::close(fd);
-    let tried = rows::try_rows(&text[..len]);
-    count(tried.rows, b" rows, ", tried.wrong);
+    let tried = rows::try_rows(&text[..len], file);
+    count(tried.rows, name, tried.wrong);
 }
 
 fn count(runs: usize, name: &[u8], wrong: usize) {

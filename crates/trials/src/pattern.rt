@@ -1,4 +1,4 @@
-// A pattern by which a write shows: no byte of it is a letter or a sign, no cell of it is zero, a byte or a position.
+// A pattern by which a write shows: no byte of it is a letter, a sign or a kind, no cell of it is zero, a byte or a position.
 
 fn byte_at(at: usize) -> u8 {
     128 + (at % 127) as u8

@@ -1,12 +1,20 @@
-// Runs each row of scripts.tsv, and writes a line for each that is wrong.
+// Runs each row of scripts.tsv or of signs.tsv, and writes a line for each that is wrong.
 //
-// The first line of the file names its columns: what a row is about, the cells, the output and the allowance lent, the
-// script, the six numbers of the report, and the output.
+// The first line of a file names its columns: what a row is about, in signs.tsv the signs and how many bytes of their table
+// are lent, and then the columns of a run: the cells, the output and the allowance lent, the script, the six numbers of the
+// report, and the output.
 use crate::fields;
 use crate::lending;
+use crate::lending::Call;
 use crate::lending::Lent;
+use crate::signs;
 use expander::Report;
 use libc::STDOUT_FILENO;
+
+pub(crate) enum File {
+    Scripts,
+    Signs,
+}
 
 pub(crate) struct Count {
     pub(crate) rows: usize,
@@ -14,13 +22,13 @@ pub(crate) struct Count {
 }
 
 // Tries each line but the first.
-pub(crate) fn try_rows(text: &[u8]) -> Count {
+pub(crate) fn try_rows(text: &[u8], file: File) -> Count {
     let mut rows = 0;
     let mut wrong = 0;
     let mut at = fields::behind(text, 0, b'\n');
     while at < text.len() {
         rows += 1;
-        if !is_right(fields::up_to(&text[at..], b'\n')) {
+        if !is_right(fields::up_to(&text[at..], b'\n'), file) {
             wrong += 1;
         }
         at = fields::behind(text, at, b'\n');
@@ -29,27 +37,52 @@ pub(crate) fn try_rows(text: &[u8]) -> Count {
 }
 
 // Whether a row is right. One that is wrong is named.
-fn is_right(row: &[u8]) -> bool {
-    let lent = Lent {
-        cells: fields::number(row, 1) as usize,
-        output: fields::number(row, 2) as usize,
-        allowance: fields::number(row, 3) as u64,
+fn is_right(row: &[u8], file: File) -> bool {
+    let right = match file {
+        File::Scripts => script_is_right(row),
+        File::Signs => signs_are_right(row),
     };
-    let report = Report {
-        outcome: fields::number(row, 5) as u64,
-        read: fields::number(row, 6) as u64,
-        written: fields::number(row, 7) as u64,
-        scans: fields::number(row, 8) as u64,
-        most: fields::number(row, 9) as u64,
-        live: fields::number(row, 10) as u64,
-    };
-    let script = fields::field(row, 4);
-    let output = fields::field(row, 11);
-    if lending::is_right(script, lent, report, output) {
+    if right {
         return true;
     }
     io::write_all(STDOUT_FILENO, b"wrong: ");
     io::write_all(STDOUT_FILENO, fields::field(row, 0));
     io::write_all(STDOUT_FILENO, b"\n");
     false
+}
+
+// By both calls: `expand` is `expand_signs` with the standard signs.
+fn script_is_right(row: &[u8]) -> bool {
+    let run = fields::from(row, 1);
+    let kinds = language::standard_kinds();
+    run_is_right(Call::Expand, &kinds, run) && run_is_right(Call::ExpandSigns, &kinds, run)
+}
+
+fn signs_are_right(row: &[u8]) -> bool {
+    let table = signs::table(fields::field(row, 1));
+    let len = fields::number(row, 2) as usize;
+    if len > table.len() {
+        return false;
+    }
+    run_is_right(Call::ExpandSigns, &table[0..len], fields::from(row, 3))
+}
+
+// Whether the columns of a run are right by a call.
+fn run_is_right(call: Call, signs: &[u8], run: &[u8]) -> bool {
+    let lent = Lent {
+        cells: fields::number(run, 0) as usize,
+        output: fields::number(run, 1) as usize,
+        allowance: fields::number(run, 2) as u64,
+    };
+    let report = Report {
+        outcome: fields::number(run, 4) as u64,
+        read: fields::number(run, 5) as u64,
+        written: fields::number(run, 6) as u64,
+        scans: fields::number(run, 7) as u64,
+        most: fields::number(run, 8) as u64,
+        live: fields::number(run, 9) as u64,
+    };
+    let script = fields::field(run, 3);
+    let output = fields::field(run, 10);
+    lending::is_right(call, signs, script, lent, report, output)
 }

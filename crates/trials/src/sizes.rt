@@ -1,5 +1,6 @@
 // Runs plain texts of five sizes on cells and output of five sizes each, and writes a line for each run that is wrong.
 use crate::lending;
+use crate::lending::Call;
 use crate::lending::Lent;
 use expander::Report;
 use language::Sizes;
@@ -48,7 +49,14 @@ fn is_right(text: &[u8], len: usize, cells: usize, output: usize) -> bool {
         allowance: 10000000,
     };
     if len <= text.len() && written <= text.len() {
-        if lending::is_right(&text[0..len], lent, report, &text[0..written]) {
+        if lending::is_right(
+            Call::Expand,
+            b"",
+            &text[0..len],
+            lent,
+            report,
+            &text[0..written],
+        ) {
             return true;
         }
     }

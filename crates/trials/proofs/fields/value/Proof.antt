@@ -32,6 +32,9 @@ returns-3 c = search needs
 mul-value : tie.Need-mul-value Inv-loop μ-loop
 mul-value c = search needs
 
+cast-value : tie.Need-cast-value Inv-loop μ-loop
+cast-value c = search needs
+
 add-value : tie.Need-add-value Inv-loop μ-loop
 add-value c = search needs
 
@@ -60,6 +63,7 @@ value-spec =
     returns-2
     returns-3
     mul-value
+    cast-value
     add-value
     add-at
     loop-less

@@ -8,10 +8,10 @@ use Rattle.trials.proofs.rows.try_rows.Statement.{statement}
 use Rattle.trials.proofs.rows.try_rows.Tie as tie
 
 abbrev Inv-loop : tie.InvT-loop
-Inv-loop text rows₀ wrong₀ at₀ rows wrong at = (at ≤ length text) × (rows ≤ at) × (wrong ≤ rows)
+Inv-loop text file rows₀ wrong₀ at₀ rows wrong at = (at ≤ length text) × (rows ≤ at) × (wrong ≤ rows)
 
 abbrev μ-loop : tie.MeasureT-loop
-μ-loop text rows₀ wrong₀ at₀ rows wrong at = length text - at
+μ-loop text file rows₀ wrong₀ at₀ rows wrong at = length text - at
 
 behind-requires : tie.Need-behind-requires Inv-loop μ-loop
 behind-requires c κs = search needs
