@@ -1,4 +1,5 @@
-// The signs and the limits of document 01 as values of the code. The rest of this crate is definitions and theorems.
+// The signs, the limits, the refusals, the outcomes and the built-ins of documents 01 and 02 as values of the code. The rest of
+// this crate is definitions and theorems.
 pub mod built_ins;
 pub mod outcomes;
 pub mod refusals;
