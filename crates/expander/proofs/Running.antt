@@ -198,3 +198,7 @@ module _ (g : Given) (accepted : refusedBy (refusals g) ≡ none) where
 -- a whole run from the built-ins, and demand 3 of it
 pub delivers : (g : Given) → g .definitions ≡ builtIns → (x : Returned) → x ≡ expanded g → Expanded g x
 delivers g from x e = (e, subst (Substitutes g) (sym e) (substitutes g (free g from)))
+
+-- what a call leaves is determined by what it is given: so `expand` is `expand_signs` with the standard table
+pub determined : (g : Given) (x y : Returned) → Expanded g x → Expanded g y → x ≡ y
+determined g x y p q = p .0 ∙ sym (q .0)
