@@ -8,7 +8,7 @@ use mathlib.Core.Option.{Option, none, some}
 use lib.ListN.{length, getD}
 use lib.Dec.{eqb, leb, ltb}
 use borrow.Author.Tests.{ltb-true, ltb-false, eqb-true, eqb-false, not-false, le-leb, lt-leb, le-ltb, eq-eqb, ne-eqb}
-use Rattle.language.specs.Signs.{Table, Sign, plain, signOfKind, signOf, standard}
+use Rattle.language.specs.Signs.{Table, plain, signOfKind, signOf, standard}
 use Rattle.language.specs.Outcomes
 use Rattle.language.specs.Refusals.{refusedBy, someBelow, countBelow, isAbove, notATable, hasKind, notOneByte, signNotOneByte, isReserved, isReservedSign, reservedSign, sizesTooLarge, signRefusals, lentRefusals, AcceptedTable}
 
@@ -22,6 +22,7 @@ below-suc P n k h here more = go (eqb k n) refl
     go true p = subst P (sym (eqb-true k n p)) here
     go false p = more (omega (arith, eqb-false k n p))
 
+-- a number of which the test holds is found
 pub some-found : (n k : ℕ) (test : ℕ → Bool) → k < n → test k ≡ true → someBelow n test ≡ true
 unfolding someBelow
 some-found zero k test h e = absurd (omega arith)
@@ -31,11 +32,13 @@ some-found (suc n) k test h e = go (test n) refl (λ below. some-found n k test 
     go true p more = refl
     go false p more = below-suc (λ j. test j ≡ true → someBelow n test ≡ true) n k h (λ q. absurd (true≢false (sym q ∙ p))) (λ below q. more below) e
 
-pub none-found : (n : ℕ) (test : ℕ → Bool) → ((k : ℕ) → k < n → test k ≡ false) → someBelow n test ≡ false
+-- where the test holds of no number below n, none is found,
+none-found : (n : ℕ) (test : ℕ → Bool) → ((k : ℕ) → k < n → test k ≡ false) → someBelow n test ≡ false
 unfolding someBelow
 none-found zero test h = refl
 none-found (suc n) test h = rw (h n (omega arith)) (none-found n test (λ k below. h k (omega (arith, below))))
 
+-- and the other way
 found-none : (n k : ℕ) (test : ℕ → Bool) → someBelow n test ≡ false → k < n → test k ≡ false
 found-none n k test e h = go (test k) refl
   where
@@ -50,6 +53,7 @@ pub record Single (n : ℕ) (test : ℕ → Bool) : Type 0 where
   pub has : test number ≡ true
   pub only : (k : ℕ) → k < n → test k ≡ true → k ≡ number
 
+-- where none is counted the test holds of none,
 none-counted : (n k : ℕ) (test : ℕ → Bool) → countBelow n test ≡ 0 → k < n → test k ≡ false
 unfolding countBelow
 none-counted zero k test e h = absurd (omega arith)
@@ -60,11 +64,13 @@ none-counted (suc n) k test e h = go (test n) refl e (λ z below. none-counted n
     go true p z more = absurd (omega (arith, z))
     go false p z more = below-suc (λ j. test j ≡ false) n k h p (more z)
 
+-- and the other way
 counts-none : (n : ℕ) (test : ℕ → Bool) → ((k : ℕ) → k < n → test k ≡ false) → countBelow n test ≡ 0
 unfolding countBelow
 counts-none zero test h = refl
 counts-none (suc n) test h = rw (h n (omega arith)) (counts-none n test (λ k below. h k (omega (arith, below))))
 
+-- where one is counted the test holds of one and no other,
 counted-single : (n : ℕ) (test : ℕ → Bool) → countBelow n test ≡ 1 → Single n test
 unfolding countBelow
 counted-single zero test e = absurd (omega (arith, e))
@@ -88,6 +94,7 @@ counted-single (suc n) test e = go (test n) refl e (counted-single n test)
           only = λ k h. below-suc (λ j. test j ≡ true → j ≡ s .number) n k h (λ q. absurd (true≢false (sym q ∙ p))) (s .only k);
         }
 
+-- and the other way
 single-counts : (n : ℕ) (test : ℕ → Bool) → Single n test → countBelow n test ≡ 1
 unfolding countBelow
 single-counts zero test s = absurd (omega (arith, s .inside))
@@ -152,6 +159,7 @@ counted-end {n} {k} {count} {test} c h = let all : k ≡ n = omega (arith, c .in
 
 -- The reserved bytes ---------------------------------------------------------------------------------------------------
 
+-- by the ranges in which the code looks for them
 module _ (b : ℕ) where
   pub reserved-from-97 : 97 ≤ b → isReserved b ≡ leb b 122
   reserved-from-97 h =
@@ -205,6 +213,7 @@ refused-none : (k : ℕ) (t : Bool) (r : Option ℕ) → cond t (some k) r ≡ n
 refused-none k true r e = let z : _≡_ {A = ℕ} 0 1 = cc in absurd (omega arith)
 refused-none k false r e = (refl, e)
 
+-- what is no 30 has 256 entries
 pub table-size : (T : Table) → notATable T ≡ false → length T ≡ 256
 table-size T = go (eqb (length T) 256) refl
   where
@@ -213,12 +222,14 @@ table-size T = go (eqb (length T) 256) refl
     go false p e = absurd (true≢false e)
 
 module _ (T : Table) where
+  -- the checks one by one: entries up to 6,
   table-entries : notATable T ≡ false → (b : ℕ) → b < 256 → getD T b 0 ≤ 6
   table-entries e b h =
       let size = table-size T e in
       let above : someBelow 256 (isAbove T) ≡ false = rw (eq-eqb (length T) 256 size) at e in
       ltb-false 6 (getD T b 0) (found-none 256 b (isAbove T) above h)
 
+  -- one byte for each sign,
   one-byte : signNotOneByte T ≡ false → (kind : ℕ) → 1 ≤ kind → kind ≤ 6 → Single 256 (hasKind T kind)
   one-byte e kind l h =
       let is : kind - 1 + 1 ≡ kind = omega arith in
@@ -226,6 +237,7 @@ module _ (T : Table) where
       subst (λ (k : ℕ). Single 256 (hasKind T k)) is
       (counted-single 256 (hasKind T (kind - 1 + 1)) (eqb-true (countBelow 256 (hasKind T (kind - 1 + 1))) 1 (not-false _ one)))
 
+  -- reserved bytes plain
   plain-entry : reservedSign T ≡ false → (b : ℕ) → isReserved b ≡ true → getD T b 0 ≡ 0
   plain-entry e b r = eqb-true (getD T b 0) 0 (not-false _ (rw r at (found-none 256 b (isReservedSign T) e (reserved-byte b r))))
 

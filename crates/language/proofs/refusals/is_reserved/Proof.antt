@@ -1,9 +1,8 @@
 -- Each test that fails leaves the bytes below.
 use native.Mathlib.Omega.{arith}
-use mathlib.Core.Path.{sym, _∙_}
+use mathlib.Core.Path.{sym}
 use borrow.Author.Tests.{eq-eqb, ne-eqb}
 use Rattle.language.proofs.Accepted.{reserved-from-97, reserved-from-65, reserved-from-48, reserved-below-48}
-use borrow.Author.Needs.{needs}
 use Rattle.language.proofs.refusals.is_reserved.Statement.{statement}
 use Rattle.language.proofs.refusals.is_reserved.Tie as tie
 

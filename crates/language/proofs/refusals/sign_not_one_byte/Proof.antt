@@ -1,9 +1,8 @@
 -- Each kind up to `kind` has one byte.
 use Prim.Native.Nat.{_+_, _-_}
-use mathlib.Core.Path.{sym, ap, _∙_}
+use mathlib.Core.Path.{sym, ap}
 use mathlib.Core.Bool.{not}
 use native.Mathlib.Omega.{arith}
-use lib.Dec.{eqb}
 use borrow.Author.Tests.{eq-eqb, ne-eqb}
 use Rattle.language.specs.Refusals.{countBelow, hasKind, notOneByte}
 use Rattle.language.proofs.Accepted.{some-found, Searched, searched-start, searched-step, searched-end}
