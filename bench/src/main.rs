@@ -9,6 +9,7 @@ mod markdown;
 mod processes;
 mod profile;
 mod signs;
+mod soak;
 mod timing;
 mod workloads;
 
@@ -80,6 +81,7 @@ fn measured(request: &Request) -> String {
     let machine = machine::described(programs.m4.as_deref());
     let in_process = in_process::table(&workloads, *rounds);
     let signs = signs::table(*rounds);
+    let soak = soak::table(*rounds);
     let processes = processes::table(&programs, &workloads, *rounds);
     let growth = growth::tables(&programs, *rounds);
     let profile = profile::table(root, &workloads);
@@ -87,6 +89,7 @@ fn measured(request: &Request) -> String {
         "Best of {rounds} rounds.\n\n{machine}\n\
          ### In process: the library and the reference\n\n{in_process}\n\
          ### Lent signs: gpm_expand_signs and gpm_expand\n\n{signs}\n\
+         ### Soak: the same calls with more and more charged\n\n{soak}\n\
          ### Whole processes: gpm and m4\n\n{processes}\n\
          ### Growth\n\n{growth}\n\
          ### Instructions of the library\n\n{profile}"

@@ -1,11 +1,11 @@
 -- A whole run of the machine is a whole run of the language.
-use Prim.Native.Nat.{ℕ, zero, suc, _+_, _-_, _≤_, min, zero-le}
+use Prim.Native.Nat.{ℕ, zero, suc, _+_, _-_, _≤_, min}
 use native.Mathlib.Omega.{arith}
 use mathlib.Core.Path.{_≡_, refl, sym, ap, subst, _∙_}
 use mathlib.Core.Bool.{Bool, true, false, true≢false, cond, _||_}
 use mathlib.Core.List.{List, [], _∷_, _++_}
 use mathlib.Core.Option.{none, some}
-use lib.ListN.{length, drop}
+use lib.ListN.{length}
 use lib.Dec.{eqb, leb, ltb}
 use borrow.Author.Tests.{ltb-false}
 use Rattle.memory.specs.Block.{zeros}
@@ -22,70 +22,16 @@ use Rattle.language.specs.Scanning as S
 use Rattle.language.specs.Expansion.{Lent, lent, Given, Returned, refusals, cleared, overwritten, limitsOf, ending, expanded}
 use Rattle.language.specs.Demand.{Demand3, Substitutes, Expanded}
 use Rattle.language.proofs.Accepted.{lent-accepted, accepted-exactly}
-use Rattle.language.proofs.Octets.{octets-start, built-ins-octets}
 use Rattle.language.proofs.Demand.{builtIns-free, demand3, substitutes}
 use Rattle.machine.specs.declared.run.Stepped.{Stepped}
 use Rattle.machine.specs.Machine.{fresh, lastScan}
 use Rattle.machine.specs.Walks.{nextPosition, nextList}
-use Rattle.machine.specs.Items.{encode, definitionsOf}
-use Rattle.machine.specs.Frames.{laid, lefts, calls, bodies, Valid}
 use Rattle.machine.specs.Held.{definitionAt, definitionsHeldFrom, shown, standingOf, Shows}
-use Rattle.machine.specs.Moving.{Holds, Comes, Moves}
+use Rattle.machine.specs.Moving.{Comes, Moves}
+use Rattle.machine.proofs.Fresh.{freshHolds}
 use Rattle.machine.proofs.Advancing.{range-in}
 use Rattle.machine.proofs.Showing.{stateShown}
 use Rattle.expander.specs.Reports.{given, numbers, returned, refusedWith, outcomeOf, reportOf, cameTo, Ran}
-
--- The fresh standing -------------------------------------------------------------------------------------------------
-
-past : (l : List ℕ) (k : ℕ) → length l ≤ k → drop k l ≡ []
-past [] zero h = refl
-past [] (suc k) h = refl
-past (x ∷ l) zero h = absurd (omega arith)
-past (x ∷ l) (suc k) h = past l k (omega arith)
-
--- it holds the state from which a run starts
-pub freshHolds : (text : Bytes) (m : Lent) → length (m .cells) ≤ cellsLimit → Octets text
-    → Holds text (m .output) (fresh (length (m .cells))) m (S.start text builtIns)
-unfolding laid lefts calls bodies Valid encode definitionsOf
-freshHolds text m small oct = record {
-  represents = record {
-    frames = [];
-    valid = tt;
-    lies = record {
-      stands = record { size = refl; right = omega arith; cells = past (m .cells) (length (m .cells)) (omega arith); definitions = refl; live = refl };
-      wrote = record { written = refl; output = refl; enough = zero-le };
-      read = refl;
-      scans = refl;
-      most = sym builtIns-free;
-    };
-    cellsLent = small;
-    ordered = zero-le;
-    carried = refl;
-    placesAre = refl;
-    leftsAre = refl;
-    callsAre = refl;
-    bodiesAre = refl;
-    ahead = refl;
-    quotes = refl;
-  };
-  octets = octets-start oct built-ins-octets;
-  inRange = record {
-    ready = record {
-      cellsLent = small;
-      ordered = zero-le;
-      inside = omega arith;
-      carried = refl;
-      callBelow = omega arith;
-      handBelow = zero-le;
-      listBelow = omega arith;
-      bodyBelow = zero-le;
-      offsetBelow = zero-le;
-      quotesBelow = omega arith;
-      liveBelow = zero-le;
-    };
-    written = zero-le;
-  };
-}
 
 -- The end of the run -------------------------------------------------------------------------------------------------
 

@@ -1,8 +1,9 @@
 -- Scan after scan: what the exported call promises.
-use Prim.Native.Nat.{ℕ, suc, _+_, _-_, _≤_, _<_}
+use Prim.Native.Nat.{ℕ, zero, suc, _+_, _-_, _≤_, _<_}
 use native.Mathlib.Omega.{arith}
 use mathlib.Core.Path.{_≡_, refl, sym, ap, subst, _∙_}
 use mathlib.Core.Bool.{Bool, true, false, cond, true≢false}
+use mathlib.Core.List.{List}
 use lib.ListN.{length, getD}
 use lib.Dec.{eqb, ltb}
 use borrow.Author.Tests.{ltb-false, leb-true, le-ltb, le-leb, eqb-true, eq-eqb}
@@ -13,14 +14,16 @@ use Rattle.language.specs.Scanning as S
 use Rattle.language.specs.Expansion.{Lent, limitsOf}
 use Rattle.language.proofs.Leads.{onNext, scans-stop}
 use Rattle.language.proofs.Octets.{octets-kept}
+use Rattle.language.proofs.Demand.{builtIns-free}
 use Rattle.machine.specs.declared.run.Run.{Run}
-use Rattle.machine.specs.declared.run.Answer.the-variants.{GoesOn}
+use Rattle.machine.specs.declared.run.Answer.{Answer}
+use Rattle.machine.specs.declared.run.Answer.the-variants.{GoesOn, Ended, Damaged, Refused}
 use Rattle.machine.specs.declared.run.Stepped.{Stepped}
 use Rattle.machine.specs.Machine as M
 use Rattle.machine.specs.Machine.{After, Ready, InRange, lastScan}
 use Rattle.machine.specs.Held.{EndsAs}
 use Rattle.machine.specs.Moving.{isInRange, Holds, Comes, Advances}
-use Rattle.machine.proofs.Represents.{Simulates, goes, stops, outputSize}
+use Rattle.machine.proofs.Represents.{Simulates, goes, stops, outputSize, chargeIs}
 use Rattle.machine.proofs.Simulating.{stepSim}
 use Rattle.machine.proofs.Keeping.{Kept, stepKept}
 
@@ -87,6 +90,18 @@ range-in r n k h =
       le-leb (r .quotes) (r .counts .scans) (omega (arith, s .quotesBelow)),
     )
 
+-- no scan follows an end
+pub steps-ended : (k : ℕ) (kinds text : List ℕ) (a : After) → (a .answer ≡ GoesOn → ⊥) → M.steps k kinds text a ≡ a
+unfolding M.steps
+steps-ended zero kinds text a out = refl
+steps-ended (suc k) kinds text a out = go (a .answer) out
+  where
+    go : (t : Answer) → (t ≡ GoesOn → ⊥) → cond (M.goesOn t) (M.steps k kinds text (M.step (a .run) kinds text (a .lent))) a ≡ a
+    go GoesOn over = absurd (over refl)
+    go (Ended c) over = refl
+    go Damaged over = refl
+    go Refused over = refl
+
 -- Between two scans --------------------------------------------------------------------------------------------------
 
 module _ (T : Table) (text : Bytes) (n k : ℕ) where
@@ -106,6 +121,7 @@ module _ (T : Table) (text : Bytes) (n k : ℕ) where
     pub small : (i : ℕ) → getD (m .cells) i 0 < 4294967296
     pub inRange : InRange n k r
     pub counted : until ≤ lastScan
+    pub made : M.steps due₀ T text (M.goes r₀ m₀) ≡ M.steps (until - r .counts .scans) T text (M.goes r m)
     pub onward : (start : Bytes) (s : State) → Holds text start r₀ m₀ s → Onward start (S.scans L (language T) due₀ (next s)) r m (until - r .counts .scans)
 
   pub begins : (r : Run) (m : Lent) (due : ℕ) → length (m .cells) ≡ n → length (m .output) ≡ k → ((i : ℕ) → getD (m .cells) i 0 < 4294967296)
@@ -118,6 +134,7 @@ module _ (T : Table) (text : Bytes) (n k : ℕ) where
         small = b;
         inRange = h;
         counted = t;
+        made = ap (λ (j : ℕ). M.steps j T text (M.goes r m)) all;
         onward = λ start s x. record { state = s; held = x; rest = ap (λ (j : ℕ). S.scans L (language T) j (next s)) all };
       }
 
@@ -130,6 +147,15 @@ module _ (T : Table) (text : Bytes) (n k : ℕ) where
         (subst (λ (j : ℕ). Kept (length (m .cells)) j (r .counts .scans + 1) (M.step r T text m)) (g .output)
         (stepKept m (g .small) r T text
         (subst (λ (j : ℕ). InRange (length (m .cells)) j r) (sym (g .output)) (subst (λ (j : ℕ). InRange j k r) (sym (g .cells)) (g .inRange))))))
+
+    -- one scan, and what is due behind it
+    stepped : M.steps due₀ T text (M.goes r₀ m₀) ≡ M.steps (until - (r .counts .scans + 1)) T text a
+    unfolding M.steps
+    stepped =
+        let more : until - r .counts .scans ≡ suc (until - (r .counts .scans + 1)) = omega arith in
+        g .made
+        ∙ ap (λ (j : ℕ). M.steps j T text (M.goes r m)) more
+        ∙ ap (λ (y : After). M.steps (until - (r .counts .scans + 1)) T text y) (sym e)
 
     module _ {start : Bytes} {all : Step} (x : Onward start all r m (until - r .counts .scans)) where
       simulated : Simulates n builtIns text start a (S.scan L (language T) (x .state))
@@ -158,6 +184,7 @@ module _ (T : Table) (text : Bytes) (n k : ℕ) where
               represents = rw cs h;
               octets = onNext (octets-kept L (language T) (x .state) (x .held .octets)) q;
               inRange = rw (cs, os) (kept .kept out);
+              carries = sym (chargeIs builtIns-free h);
             };
             rest = leads (next s) q ∙ ap (λ (j : ℕ). S.scans L (language T) (until - j) (next s)) (sym (kept .counted out));
           }
@@ -183,18 +210,26 @@ module _ (T : Table) (text : Bytes) (n k : ℕ) where
       small = b;
       inRange = kept .kept out;
       counted = g .counted;
+      made =
+          stepped
+          ∙ ap (λ (y : Answer). M.steps (until - (r .counts .scans + 1)) T text (record { run = a .run; answer = y; lent = a .lent })) out
+          ∙ ap (λ (j : ℕ). M.steps (until - j) T text (M.goes (a .run) (a .lent))) (sym (kept .counted out));
       onward = λ start s h. goesOnto (g .onward start s h) out;
     }
 
     pub ends : (st : Stepped) (m′ : Lent) → a ≡ M.leaves st m′ → (a .answer ≡ GoesOn → ⊥)
-        → length (m₀ .cells) ≡ n → length (m₀ .output) ≡ k → Advances T text due₀ r₀ m₀ st m′
+        → length (m₀ .cells) ≡ n → length (m₀ .output) ≡ k
+        → Advances T text due₀ r₀ m₀ st m′ × (M.leaves st m′ ≡ M.steps due₀ T text (M.goes r₀ m₀))
     ends st m′ is out c o =
         let told : st .answer ≡ a .answer = ap (λ (j : After). j .answer) (sym is) in
-        record {
-          answered = λ q. kept .told (sym told ∙ q);
-          ranged = λ q. absurd (out (sym told ∙ q));
-          moves = λ start s h. rw (c, o) (endsHere (g .onward start s h) st m′ is out);
-        }
+        (
+          record {
+            answered = λ q. kept .told (sym told ∙ q);
+            ranged = λ q. absurd (out (sym told ∙ q));
+            moves = λ start s h. rw (c, o) (endsHere (g .onward start s h) st m′ is out);
+          },
+          sym (stepped ∙ steps-ended (until - (r .counts .scans + 1)) T text a out ∙ is),
+        )
 
   -- a scan can be made
   pub readyOf : {r₀ r : Run} {m₀ m : Lent} {due₀ until : ℕ} → Going r₀ m₀ due₀ r m until → r .counts .scans < until
@@ -205,14 +240,18 @@ module _ (T : Table) (text : Bytes) (n k : ℕ) where
 
   -- the last scan that was due is made
   pub done : {r₀ r : Run} {m₀ m : Lent} {due₀ until : ℕ} → Going r₀ m₀ due₀ r m until → until ≤ r .counts .scans → length (m₀ .cells) ≡ n → length (m₀ .output) ≡ k
-      → Advances T text due₀ r₀ m₀ (record { run = r; answer = GoesOn }) m
-  unfolding S.scans
-  done {r = r} {due₀ = due₀} {until} g over c o = record {
-    answered = λ q. let z : _≡_ {A = ℕ} 0 1 = cc in omega arith;
-    ranged = λ q. rw (c, o) (g .inRange);
-    moves = λ start s h.
-        let x = g .onward start s h in
-        let none : until - r .counts .scans ≡ 0 = omega arith in
-        let at : S.scans L (language T) due₀ (next s) ≡ next (x .state) = x .rest ∙ ap (λ (j : ℕ). S.scans L (language T) j (next (x .state))) none in
-        rw (c, o) (rw at (refl, x .held));
-  }
+      → Advances T text due₀ r₀ m₀ (record { run = r; answer = GoesOn }) m × (M.goes r m ≡ M.steps due₀ T text (M.goes r₀ m₀))
+  unfolding S.scans M.steps
+  done {r = r} {m = m} {due₀ = due₀} {until} g over c o =
+      let none : until - r .counts .scans ≡ 0 = omega arith in
+      (
+        record {
+          answered = λ q. let z : _≡_ {A = ℕ} 0 1 = cc in omega arith;
+          ranged = λ q. rw (c, o) (g .inRange);
+          moves = λ start s h.
+              let x = g .onward start s h in
+              let at : S.scans L (language T) due₀ (next s) ≡ next (x .state) = x .rest ∙ ap (λ (j : ℕ). S.scans L (language T) j (next (x .state))) none in
+              rw (c, o) (rw at (refl, x .held));
+        },
+        sym (g .made ∙ ap (λ (j : ℕ). M.steps j T text (M.goes r m)) none),
+      )

@@ -256,9 +256,9 @@ module _ {n : ℕ} {older : List Definition} {whole start : List ℕ} {r : Run} 
         w .1,
       )
 
-  pub releaseIs : (q : Run) (kept : ℕ) (o′ : List ℕ) → q .calls .call ≡ r .calls .call → q .right ≡ r .right → q .counts .live ≡ r .counts .live → r .calls .call + kept ≤ to
-      → M.release q kept (lent l o′) ≡ M.goes (M.released q kept to (packed (p .hand) (p .call)) (count (a .since)) n) (lent l o′)
-  releaseIs q kept o′ c t v e =
+  pub releaseIs : (q : Run) (kept : ℕ) (o′ : List ℕ) → q .calls .call ≡ r .calls .call → q .right ≡ r .right → q .counts .live ≡ r .counts .live
+      → M.release q kept (lent l o′) ≡ M.goes (M.released q kept to (packed (p .hand) (p .call)) (count (a .since))) (lent l o′)
+  releaseIs q kept o′ c t v =
       let w = widths in
       let toEq : getD l (q .calls .call) 0 ≡ to = ap (λ (k : ℕ). getD l k 0) c ∙ toIs in
       let linksEq : returnLink l (q .calls .call) ≡ packed (p .hand) (p .call) = ap (λ (k : ℕ). returnLink l k) c ∙ linksIs in
@@ -270,9 +270,7 @@ module _ {n : ℕ} {older : List Definition} {whole start : List ℕ} {r : Run} 
         linksEq,
         le-ltb to (q .right) (omega (arith, w .1)),
         le-ltb (length l) to (omega (arith, a .lies .stands .size)),
-        le-ltb to (q .calls .call + kept) (omega arith),
         le-ltb (q .counts .live) (count (a .since)) (omega (arith, a .lies .stands .live, count-append (a .since) U)),
-        a .lies .stands .size,
       )
 
   -- where the list ends and what stood at its `$` begins
@@ -308,7 +306,7 @@ module _ {n : ℕ} {older : List Definition} {whole start : List ℕ} {r : Run} 
       → calls n b fs′ ≡ calls n b (a .under) → bodies n b fs′ ≡ bodies n b (a .under)
       → length l′ ≡ n → take (r .calls .call) l′ ≡ take (r .calls .call) l → width (items n b fs′) ≡ width U → drop to l′ ≡ encode (items n b fs′)
       → ds ≡ definitionsOf (items n b fs′) ++ older → count (items n b fs′) ≡ count U
-      → Represents n older whole start (M.released r 0 to (packed (p .hand) (p .call)) (count (a .since)) n) (lent l′ o)
+      → Represents n older whole start (M.released r 0 to (packed (p .hand) (p .call)) (count (a .since))) (lent l′ o)
       (S.withCalls (calls n b (a .under)) (S.withDefinitions ds s))
   freed fs′ l′ ds v pl le ca bo size low′ wd hi dd cn =
       let w = widths in
@@ -331,7 +329,7 @@ module _ {n : ℕ} {older : List Definition} {whole start : List ℕ} {r : Run} 
         };
         cellsLent = a .cellsLent;
         ordered = omega (arith, toAbove, a .leftIs);
-        carried = omega (arith, w .1);
+        carried = omega (arith, w .1, a .carried, a .leftIs);
         placesAre = ap (λ (j : ℕ). record { left = j; call = low (packed (p .hand) (p .call)); hand = high (packed (p .hand) (p .call)); list = r .source .list; body = r .source .body; offset = r .source .offset }) z ∙ placesLeft ∙ sym pl;
         leftsAre = ap (λ (j : ℕ). take j l′) z ∙ low′ ∙ takeCall ∙ sym le;
         callsAre = sym ca;

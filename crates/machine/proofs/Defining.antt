@@ -23,7 +23,7 @@ use Rattle.machine.proofs.Items.{count-width, width-append, width-cons,
 use Rattle.machine.proofs.Represents.{Simulates, goes}
 use Rattle.machine.proofs.Finds.{ArgumentAt, argument-at}
 use Rattle.machine.proofs.Applying.{Applied, listOf}
-use Rattle.machine.proofs.Calling.{argumentsAt, releaseIs, toAbove, underCells, takeCall, leftDefinitions, placesLeft}
+use Rattle.machine.proofs.Calling.{argumentsAt, releaseIs, rightTo, toAbove, underCells, takeCall, leftDefinitions, placesLeft}
 use Rattle.machine.specs.Items.{definitionOf, Item, defined, width, encode, definitionsOf, count}
 use Rattle.machine.specs.Frames.{Places, made, address, laid, items, places, lefts, calls, bodies, Valid}
 use Rattle.machine.specs.Held.{Represents}
@@ -126,7 +126,7 @@ module _ {n : ℕ} {older : List Definition} {whole start : List ℕ} {r : Run} 
 
   -- the run once the definition is made
   abbrev run : Run
-  run = M.defined (M.released r 0 to (packed (p .hand) (p .call)) (count (a .since)) n) size
+  run = M.defined (M.released r 0 to (packed (p .hand) (p .call)) (count (a .since))) size
 
   -- the cells of the definition, and what stood at the `$` behind it
   abbrev tail : List ℕ
@@ -164,7 +164,7 @@ module _ {n : ℕ} {older : List Definition} {whole start : List ℕ} {r : Run} 
         let f = fits in
         let w = toWithin in
         rw (
-          releaseIs a r 0 o refl refl refl (omega arith),
+          releaseIs a r 0 o refl refl refl,
           x .counted,
           y .counted,
           le-ltb to (size + (r .calls .call + 0)) (omega arith),
@@ -209,7 +209,7 @@ module _ {n : ℕ} {older : List Definition} {whole start : List ℕ} {r : Run} 
           };
           cellsLent = a .cellsLent;
           ordered = omega arith;
-          carried = omega arith;
+          carried = omega (arith, a .carried, a .leftIs, rightTo a);
           placesAre =
               ap (λ (j : ℕ). record { left = j; call = low (packed (p .hand) (p .call)); hand = high (packed (p .hand) (p .call)); list = r .source .list; body = r .source .body; offset = r .source .offset }) z
               ∙ placesLeft a;

@@ -86,7 +86,7 @@ module _ {n : ℕ} {older : List Definition} {whole start : List ℕ} {r : Run} 
   refused k = stops (record { answer = refl; shows = appliedShown })
 
   -- the list gone and nothing in its place
-  pub gone : Represents n older whole start (M.released r 0 (address n U) links (count (a .since)) n) (lent l o)
+  pub gone : Represents n older whole start (M.released r 0 (address n U) links (count (a .since))) (lent l o)
       (S.withCalls (calls n b (a .under)) (S.withDefinitions (oldest (b + count U) (s .standing .definitions)) s))
   gone = freed a (a .under) l (oldest (b + count U) (s .standing .definitions)) (a .valid) refl refl refl refl (a .lies .stands .size) refl refl (underCells a) (leftDefinitions a) refl
 
@@ -133,21 +133,22 @@ module _ {n : ℕ} {older : List Definition} {whole start : List ℕ} {r : Run} 
       target : State
       target = S.withCalls (putHand bs (calls n b (a .under))) (S.withDefinitions (oldest (b + count U) (s .standing .definitions)) s)
 
-      rep : r .charge + length bs ≤ n → Represents n older whole start (M.released (M.charged (length bs) r) (length bs) (address n U) links (count (a .since)) n) (lent X o) (mostly (max (s .standing .most) (S.charge s + (1 + length bs))) target)
+      rep : r .charge + length bs ≤ n → Represents n older whole start (M.released (M.charged (length bs) r) (length bs) (address n U) links (count (a .since))) (lent X o) (mostly (max (s .standing .most) (S.charge s + (1 + length bs))) target)
       rep e =
           let t = toAbove a in
           let t₂ = rightTo a in
-          let fit : r .calls .call + 0 + (n - address n U) + length bs ≤ n = omega (arith, a .carried, a .leftIs, a .room, a .lies .stands .right) in
+          let went = r .calls .left - r .calls .call + 1 + (address n U - r .right) in
+          let fit : r .charge - went + length bs ≤ n = omega arith in
           let c₂ : Collects n b (gone .frames) = subst (λ (k : List Call). 0 < length k) (gone .callsAre) c in
           let h = remost m (collectsPlaced free gone bs c₂ fit) in
           let z : r .calls .call + 0 ≡ r .calls .call = omega arith in
           let leftEq : r .calls .call + 0 + length bs ≡ r .calls .call + length bs = omega arith in
-          let chargeEq₂ : r .calls .call + 0 + (n - address n U) + length bs ≡ r .calls .call + length bs + (n - address n U) = omega arith in
+          let chargeEq₂ : r .charge - went + length bs ≡ r .charge + length bs - went = omega (arith, a .carried, a .leftIs, a .lies .stands .right) in
           let cellsEq : placed (r .calls .call + 0) bs l ≡ X = ap (λ (k : ℕ). placed k bs l) z ∙ sym (is e) in
-          let h₂ = subst (λ (k : List ℕ). Represents n older whole start (M.withMost m (M.collected (length bs) (M.released r 0 (address n U) links (count (a .since)) n))) (lent k o) (mostly m target)) cellsEq h in
-          let h₃ = subst (λ (k : ℕ). Represents n older whole start (placedAt k (r .calls .call + 0 + (n - address n U) + length bs) m) (lent X o) (mostly m target)) leftEq h₂ in
+          let h₂ = subst (λ (k : List ℕ). Represents n older whole start (M.withMost m (M.collected (length bs) (M.released r 0 (address n U) links (count (a .since))))) (lent k o) (mostly m target)) cellsEq h in
+          let h₃ = subst (λ (k : ℕ). Represents n older whole start (placedAt k (r .charge - went + length bs) m) (lent X o) (mostly m target)) leftEq h₂ in
           let h₄ = subst (λ (k : ℕ). Represents n older whole start (placedAt (r .calls .call + length bs) k m) (lent X o) (mostly m target)) chargeEq₂ h₃ in
-          subst (λ (k : ℕ). Represents n older whole start (placedAt (r .calls .call + length bs) (r .calls .call + length bs + (n - address n U)) m) (lent X o) (mostly k target)) mostEq h₄
+          subst (λ (k : ℕ). Represents n older whole start (placedAt (r .calls .call + length bs) (r .charge + length bs - went) m) (lent X o) (mostly k target)) mostEq h₄
 
       go : (t : Bool) → leb (r .charge + length bs) n ≡ t
           → Simulates n older whole start
@@ -158,7 +159,7 @@ module _ {n : ℕ} {older : List Definition} {whole start : List ℕ} {r : Run} 
       go true e =
           let q = leb-true (r .charge + length bs) n e in
           let t = rightTo a in
-          let released = releaseIs a (M.charged (length bs) r) (length bs) o refl refl refl (omega (arith, a .carried, a .leftIs, a .room, a .lies .stands .right)) in
+          let released = releaseIs a (M.charged (length bs) r) (length bs) o refl refl refl in
           let test₂ : leb (S.charge s + (1 + length bs)) n ≡ true = ap (λ (k : ℕ). leb k n) chargeEq ∙ e in
           rw (test ∙ ap not e, test₂, released) (goes refl (rep q))
       go false e =
@@ -187,13 +188,13 @@ module _ {n : ℕ} {older : List Definition} {whole start : List ℕ} {r : Run} 
       go true e =
           let q = leb-true (length (s .standing .output) + length bs) (length start) e in
           let t = toAbove a in
-          let released = releaseIs a (M.wrote (length bs) r) 0 o refl refl refl (omega (arith, a .leftIs)) in
+          let released = releaseIs a (M.wrote (length bs) r) 0 o refl refl refl in
           let outEq : (s .standing .output ++ bs) ++ drop (length (s .standing .output ++ bs)) start ≡ O =
           sym (is q ∙ ap (λ (k : ℕ). placed k bs o) (a .lies .wrote .written) ∙ ap (placed (length (s .standing .output)) bs) (a .lies .wrote .output) ∙ overwrite (s .standing .output) start bs q) in
-          let h = subst (λ (k : List Call). Represents n older whole start (M.wrote (length bs) (M.released r 0 (address n U) links (count (a .since)) n)) (lent l ((s .standing .output ++ bs) ++ drop (length (s .standing .output ++ bs)) start))
+          let h = subst (λ (k : List Call). Represents n older whole start (M.wrote (length bs) (M.released r 0 (address n U) links (count (a .since)))) (lent l ((s .standing .output ++ bs) ++ drop (length (s .standing .output ++ bs)) start))
           (S.withOutput (s .standing .output ++ bs) (S.withCalls k (S.withDefinitions (oldest (b + count U) (s .standing .definitions)) s)))) none (writes free gone bs q) in
           rw (test ∙ ap not e, released)
-          (goes refl (subst (λ (k : List ℕ). Represents n older whole start (M.wrote (length bs) (M.released r 0 (address n U) links (count (a .since)) n)) (lent l k)
+          (goes refl (subst (λ (k : List ℕ). Represents n older whole start (M.wrote (length bs) (M.released r 0 (address n U) links (count (a .since)))) (lent l k)
           (S.withOutput (s .standing .output ++ bs) (S.withCalls [] (S.withDefinitions (oldest (b + count U) (s .standing .definitions)) s)))) outEq h))
       go false e = rw (test ∙ ap not e) (refused Outcomes.noOutputLeft)
 

@@ -23,7 +23,7 @@ use Rattle.machine.specs.declared.run.Answer.{Answer}
 use Rattle.machine.specs.declared.run.Answer.the-variants.{GoesOn, Ended, Damaged, Refused}
 use Rattle.machine.specs.Walks.{nowhere, mark, cell, headSize, argumentsFrom, listOverhead, valueLength, room, rightBefore, listLink, returnLink, high, argument, newest, definitions, isRead, builtInNamed, calculate}
 use Rattle.machine.specs.Machine as M
-use Rattle.machine.specs.Machine.{After, Sound, Ready, InRange, Marked}
+use Rattle.machine.specs.Machine.{After, Sound, Ready, InRange, Resulting, Marked}
 use Rattle.machine.proofs.Bodies.{inside}
 use Rattle.machine.proofs.Leaves.{found-below}
 
@@ -139,41 +139,18 @@ module _ (m : Lent) where
 
     -- Built-ins ------------------------------------------------------------------------------------------------------
 
-    -- what the end of a call needs of a standing
-    record Calm (r : Run) : Type 0 where
-      cellsLent : n ≤ 65536
-      callBelow : r .calls .call ≤ 65535
-      listBelow : r .source .list ≤ 65535
-      bodyBelow : r .source .body ≤ 65535
-      offsetBelow : r .source .offset ≤ 4294967296
-      quotesBelow : r .quotes ≤ r .counts .scans
-      liveBelow : r .counts .live ≤ 65536
-
-    releaseKept : (r : Run) → Calm r → r .counts .written ≤ k → (kept : ℕ) → Kept n k (r .counts .scans) (M.release r kept m)
-    releaseKept r s w kept =
+    releaseKept : (r : Run) (kept : ℕ) → Resulting n kept r → r .counts .written ≤ k → Kept n k (r .counts .scans) (M.release r kept m)
+    releaseKept r kept s w =
         let to = rightBefore l (r .calls .call) in
         let gone = definitions l (r .right) (rightBefore l (r .calls .call)) in
         choose (ltb to (r .right)) (λ t. damaged)
         (λ t₁. choose (ltb n to) (λ t. damaged)
-        (λ t₂. choose (ltb to (r .calls .call + kept)) (λ t. damaged)
-        (λ t₃. choose (ltb (r .counts .live) gone) (λ t. damaged) λ t₄.
+        (λ t₂. choose (ltb (r .counts .live) gone) (λ t. damaged) λ t₃.
+        let q₁ = ltb-false to (r .right) t₁ in
         let q₂ = ltb-false n to t₂ in
-        let q₃ = ltb-false to (r .calls .call + kept) t₃ in
-        let q₄ = ltb-false (r .counts .live) gone t₄ in
-        let q₅ = small (r .calls .call + 2) in
-        goes (record {
-          cellsLent = s .cellsLent;
-          ordered = omega arith;
-          inside = omega arith;
-          carried = omega arith;
-          callBelow = omega arith;
-          handBelow = omega arith;
-          listBelow = s .listBelow;
-          bodyBelow = s .bodyBelow;
-          offsetBelow = s .offsetBelow;
-          quotesBelow = omega (arith, s .quotesBelow);
-          liveBelow = omega (arith, s .liveBelow);
-        }) w refl)))
+        let q₃ = ltb-false (r .counts .live) gone t₃ in
+        let q₄ = small (r .calls .call + 2) in
+        goes (search needs) w refl))
 
     -- from what goes on
     onwardKept : {made : ℕ} (a : After) (go : Run → After) → Kept n k made a
@@ -200,16 +177,15 @@ module _ (m : Lent) where
         goes (search needs) (f .written) c)
 
     module _ (r : Run) (s : Marked n r) (w : r .counts .written ≤ k) where
-      calm : Calm r
-      calm = search needs
-
       giveKept : (count : ℕ) → Kept n k (r .counts .scans) (M.give r count m)
       giveKept count =
           choose (M.isOuter r l)
           (λ t. choose (ltb (k - r .counts .written) count) (λ t. ends) λ t.
           let q = ltb-false (k - r .counts .written) count t in
-          releaseKept (M.wrote count r) (search needs) (omega arith) 0)
-          (λ t. choose (ltb (n - r .charge) count) (λ t. ends) (λ t. releaseKept (M.charged count r) (search needs) w count))
+          releaseKept (M.wrote count r) 0 (search needs) (omega arith))
+          (λ t. choose (ltb (n - r .charge) count) (λ t. ends) λ t.
+          let q = ltb-false (n - r .charge) count t in
+          releaseKept (M.charged count r) count (search needs) w)
 
       refuseKept : (name : ℕ) → Kept n k (r .counts .scans) (M.refuseName r name m)
       refuseKept name = go (builtInNamed l name)
@@ -228,7 +204,7 @@ module _ (m : Lent) where
           let d = newest l (r .right) (r .source .list) name in
           choose (eqb d nowhere) (λ t. refuseKept name)
           (λ t. choose (isRead l (r .source .list) (r .source .body) d) (λ t. ends)
-          (λ t. choose (ltb (room l d) (getD l value 0)) (λ t. ends) (λ t. record { kept = releaseKept r calm w 0 .kept; counted = releaseKept r calm w 0 .counted; told = releaseKept r calm w 0 .told })))
+          (λ t. choose (ltb (room l d) (getD l value 0)) (λ t. ends) (λ t. record { kept = releaseKept r 0 s w .kept; counted = releaseKept r 0 s w .counted; told = releaseKept r 0 s w .told })))
 
       answerKept : (a : Arithmetical.Answer) → Kept n k (r .counts .scans) (M.giveAnswer r a m)
       answerKept a = choose (eqb (a .outcome) Outcomes.finished) (λ t. placingKept _ _ (giveKept (a .decimal .len))) (λ t. ends)
@@ -237,7 +213,7 @@ module _ (m : Lent) where
       performKept Def name =
           let first = argument l name 1 in
           let second = argument l name 2 in
-          onwardKept (M.release r 0 m) (λ r₁. M.defineIn r₁ first second (getD l first 0) (getD l second 0) m) (releaseKept r calm w 0)
+          onwardKept (M.release r 0 m) (λ r₁. M.defineIn r₁ first second (getD l first 0) (getD l second 0) m) (releaseKept r 0 s w)
           (λ f c. defineKept (M.release r 0 m .run) first second (getD l first 0) (getD l second 0) f c)
       performKept Val name = valKept (argument l name 1)
       performKept Update name = updateKept (argument l name 1) (argument l name 2)
@@ -253,13 +229,8 @@ module _ (m : Lent) where
       -- the body of a definition that was found
       readKept : (d : ℕ) → d ≤ 65535 → Kept n k (r .counts .scans) (M.readBody r d m)
       readKept d h =
-          let size = r .calls .left - r .calls .call + 1 in
-          choose (ltb (r .calls .left) (r .calls .call + openPrice)) (λ t. damaged)
-          (λ t₁. choose (ltb (r .right) size) (λ t. damaged) λ t₂.
-          let q₁ = ltb-false (r .calls .left) (r .calls .call + openPrice) t₁ in
-          let q₂ = ltb-false (r .right) size t₂ in
-          let q₅ = small (r .calls .call + 2) in
-          goes (search needs) w refl)
+          let q = small (r .calls .call + 2) in
+          goes (search needs) w refl
 
       markedKept : Kept n k (r .counts .scans) (M.applyMarked r m)
       markedKept =
@@ -309,7 +280,9 @@ module _ (m : Lent) (small : (i : ℕ) → getD (m .cells) i 0 < 4294967296) whe
     applyKept b =
         choose (M.ownCall r (m .cells))
         (λ t. choose (leb cells (r .charge)) (λ t. ends) λ t.
+        choose (ltb (r .calls .left) (r .calls .call + openPrice)) (λ t. damaged) λ t₂.
         let q = leb-false cells (r .charge) t in
+        let q₂ = ltb-false (r .calls .left) (r .calls .call + openPrice) t₂ in
         let m′ = M.withCells marked m in
         let s′ : Marked cells (M.charged 1 r) = search needs in
         subst (λ (j : ℕ). Kept j room′ (r .counts .scans) (M.applyMarked (M.charged 1 r) m′)) markedSize

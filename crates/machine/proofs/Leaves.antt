@@ -20,7 +20,7 @@ use Rattle.machine.specs.declared.run.Run.{Run}
 use Rattle.machine.specs.declared.run.Answer.{Answer}
 use Rattle.machine.specs.declared.run.Answer.the-variants.{GoesOn, Ended, Damaged, Refused}
 use Rattle.machine.specs.Walks.{nowhere, headSize, nameLength, valueLength, isNamed, nextPosition, nextList, newestFrom, newest, argument, calculate}
-use Rattle.machine.specs.Machine.{After, Marked, goes, damaged, goesOn, placing, released, releaseTo, release, defineIn, def, giveBlock, refuseName, val, giveAnswer, perform}
+use Rattle.machine.specs.Machine.{After, Resulting, goes, damaged, goesOn, placing, released, releaseTo, release, defineIn, def, giveBlock, refuseName, val, giveAnswer, perform}
 use Rattle.machine.proofs.run.Answer.{the-type}
 
 -- an answer of another kind does not go on
@@ -78,22 +78,21 @@ pub record Roomy (r : Run) : Type 0 where
   pub chargeBelow : r .charge ≤ 4294967296
 
 -- a call that ended leaves such a standing
-pub roomy : (r : Run) (kept to links gone : ℕ) (m : Lent) {a : After} → Marked (length (m .cells)) r → kept ≤ 65536
+pub roomy : (r : Run) (kept to links gone : ℕ) (m : Lent) {a : After} → Resulting (length (m .cells)) kept r
     → a ≡ releaseTo r kept to links gone m → a .answer ≡ GoesOn → Roomy (a .run)
-roomy r kept to links gone m {a} s k =
-    go (ltb to (r .right)) (ltb (length (m .cells)) to) refl (ltb to (r .calls .call + kept)) (ltb (r .counts .live) gone)
+roomy r kept to links gone m {a} s =
+    go (ltb to (r .right)) (ltb (length (m .cells)) to) refl (ltb (r .counts .live) gone)
   where
     refused : a ≡ damaged r m → a .answer ≡ GoesOn → ⊥
     refused e h = let z : _≡_ {A = ℕ} 0 1 = cc in omega arith
 
-    go : (b₁ b₂ : Bool) → ltb (length (m .cells)) to ≡ b₂ → (b₃ b₄ : Bool)
-        → a ≡ cond b₁ (damaged r m) (cond b₂ (damaged r m) (cond b₃ (damaged r m) (cond b₄ (damaged r m) (goes (released r kept to links gone (length (m .cells))) m))))
+    go : (b₁ b₂ : Bool) → ltb (length (m .cells)) to ≡ b₂ → (b₃ : Bool)
+        → a ≡ cond b₁ (damaged r m) (cond b₂ (damaged r m) (cond b₃ (damaged r m) (goes (released r kept to links gone) m)))
         → a .answer ≡ GoesOn → Roomy (a .run)
-    go true b₂ t b₃ b₄ e h = absurd (refused e h)
-    go false true t b₃ b₄ e h = absurd (refused e h)
-    go false false t true b₄ e h = absurd (refused e h)
-    go false false t false true e h = absurd (refused e h)
-    go false false t false false e h = let i : to ≤ length (m .cells) = ltb-false _ _ t in rw e (omega arith)
+    go true b₂ t b₃ e h = absurd (refused e h)
+    go false true t b₃ e h = absurd (refused e h)
+    go false false t true e h = absurd (refused e h)
+    go false false t false e h = let i : to ≤ length (m .cells) = ltb-false _ _ t in rw e (omega arith)
 
 -- a walk finds a definition within the cells, or nowhere
 walk-below : (t : ℕ) (l : List ℕ) (p list name count : ℕ) → length l ≤ 65536 → newestFrom t l p list name count ≤ 65535

@@ -23,4 +23,6 @@ pub mod Giving
 pub mod Performing
 pub mod Simulating
 pub mod Keeping
+pub mod Fresh
 pub mod Advancing
+pub mod Carried

@@ -1,5 +1,5 @@
 -- What an applied call does: a body read, or a built-in performed, as the scanning does it.
-use Prim.Native.Nat.{ℕ, _+_, _-_, _≤_, _<_}
+use Prim.Native.Nat.{ℕ, _+_, _≤_, _<_}
 use native.Mathlib.Omega.{arith}
 use mathlib.Core.Path.{_≡_, refl, sym, ap, subst, _∙_}
 use mathlib.Core.Bool.{Bool, true, false, cond}
@@ -7,7 +7,7 @@ use mathlib.Core.List.{List, [], _∷_, _++_, append-nil}
 use lib.ListN.{length, drop, getD, length-append}
 use lib.Seq.{drop-drop, drop-at}
 use lib.Dec.{eqb, ltb}
-use borrow.Author.Tests.{le-ltb, ne-eqb, ltb-true, ltb-false}
+use borrow.Author.Tests.{ne-eqb, ltb-true, ltb-false}
 use Rattle.decimal.specs.declared.operations.Operation.{Operation}
 use Rattle.decimal.specs.Arithmetic.{Result, number, refused, calculated}
 use Rattle.decimal.specs.Shortest.{shortest}
@@ -19,7 +19,7 @@ use Rattle.language.specs.declared.built_ins.BuiltIn.the-variants.{Def, Val, Up
 use Rattle.language.specs.Definitions.{macro, builtIn, Definition, Found, found, missing, altered, oldest, among}
 use Rattle.language.specs.Definitions as D
 use Rattle.language.specs.BuiltIns.{builtIns, Deed, reads, alters, faulty, deed, deedOf, performed, valueOf, updateOf, resultOf, parameter, needs}
-use Rattle.language.specs.Charge.{argumentsPrice, openPrice}
+use Rattle.language.specs.Charge.{argumentsPrice}
 use Rattle.language.specs.Matched.{All, empty, with}
 use Rattle.language.specs.Scanning.{State, next, Call, Body}
 use Rattle.language.specs.Scanning as S
@@ -54,12 +54,6 @@ valueOctets t (d ∷ ds) k m (with x h) e = go (D.same t (d .name)) e (λ q. val
     go : (y : Bool) → cond y (found (length ds) (d .content)) (D.newest t ds) ≡ found k (macro m) → (D.newest t ds ≡ found k (macro m) → Octets (m .value)) → Octets (m .value)
     go true e ih = let q : d .content ≡ macro m = cc in subst ContentOctets q (x .content)
     go false e ih = ih e
-
--- a list with a name takes a cell at least
-oneCost : (x : List Bytes) → 0 < length x → 1 ≤ argumentsPrice x
-unfolding argumentsPrice
-oneCost [] h = absurd (omega arith)
-oneCost (y ∷ x) h = omega arith
 
 module _ {n : ℕ} {whole start : List ℕ} {r : Run} {l o : List ℕ} {s : State} (a : Applied n builtIns whole start r (lent l o) s) (oct : HoldsOctets s) where
   abbrev b : ℕ
@@ -160,10 +154,7 @@ module _ {n : ℕ} {whole start : List ℕ} {r : Run} {l o : List ℕ} {s : Stat
 
   readSim : (d k room : ℕ) (v : Bytes) → Defines n b l (r .right) its d k (parameter 0 list) v room
       → Simulates n builtIns whole start (M.readBody r d (lent l o)) (S.perform (limitsOf n (length start)) (reads k v) c cs s)
-  readSim d k room v D =
-      let left : ltb (r .calls .left) (r .calls .call + openPrice) ≡ false = le-ltb (r .calls .left) (r .calls .call + openPrice) (omega (arith, a .leftIs, oneCost list named)) in
-      let fits : ltb (r .right) (r .calls .left - r .calls .call + 1) ≡ false = le-ltb (r .right) (r .calls .left - r .calls .call + 1) (omega (arith, a .leftIs, a .room)) in
-      rw (left, fits, linksIs a, movedIs a d k v (D .at)) (goes refl (begun a d k v (D .at) named))
+  readSim d k room v D = rw (linksIs a, movedIs a d k v (D .at)) (goes refl (begun a d k v (D .at) named))
 
   -- VAL --------------------------------------------------------------------------------------------------------------
 
@@ -263,7 +254,7 @@ module _ {n : ℕ} {whole start : List ℕ} {r : Run} {l o : List ℕ} {s : Stat
       ∙ ap (λ (j : ℕ). oldest (b + j) (definitionsOf (A ++ K) ++ builtIns)) (sym (alter-count k w b U))
       ∙ oldest-items A K builtIns in
       let e = toAbove a in
-      let rel = releaseIs a r 0 o refl refl refl (omega (arith, a .leftIs)) in
+      let rel = releaseIs a r 0 o refl refl refl in
       rw (cellsEq, rel)
       (goes refl
       (freed a fs′ l′ (oldest (b + count U) (altered k w (s .standing .definitions)))

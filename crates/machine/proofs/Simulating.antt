@@ -11,12 +11,14 @@ use borrow.Author.Tests.{lt-ltb, le-ltb, le-leb, lt-leb, ne-eqb, eqb-true}
 use Rattle.language.specs.Outcomes
 use Rattle.language.specs.Signs.{Bytes, Table, plain, dollar, comma, semicolon, tilde, quote, unquote, signOfKind, meaning, outside, inside, closesTo, language}
 use Rattle.language.specs.BuiltIns.{builtIns, deed}
+use Rattle.language.specs.Charge.{openPrice}
 use Rattle.language.specs.Matched.{All, with}
 use Rattle.language.specs.Scanning.{State, Step, Call, Body}
 use Rattle.language.specs.Scanning as S
 use Rattle.language.specs.Expansion.{limitsOf, lent}
 use Rattle.language.specs.Octets.{Octets, BodyOctets, HoldsOctets}
 use Rattle.language.proofs.Demand.{builtIns-free}
+use Rattle.language.proofs.Prices.{arguments-last}
 use Rattle.machine.specs.declared.run.Run.{Run}
 use Rattle.machine.specs.Walks.{nowhere, mark}
 use Rattle.machine.specs.Machine as M
@@ -71,9 +73,10 @@ module _ {n : ℕ} {whole start : List ℕ} {r : Run} {l o : List ℕ} {s : Stat
           let p : k ∷ ks ≡ record { ended = a .ended; hand = a .hand; stood = length builtIns + count (items n (length builtIns) (a .under)) } ∷ calls n (length builtIns) (a .under) = sym e ∙ a .callsAre in
           let kEq : record { ended = a .ended; hand = a .hand; stood = length builtIns + count (items n (length builtIns) (a .under)) } ≡ k = cc in
           let ksEq : calls n (length builtIns) (a .under) ≡ ks = cc in
-          subst (λ (j : List Call). Sim (M.applyMarked (M.charged 1 r) (lent (set (M.endArgument r l) (r .calls .left) mark) o)) (S.perform L (deed (S.reading (s .bodies)) (S.listOf k) (s .standing .definitions)) k j (S.noting (S.charge s + 1) s))) ksEq
+          rw (le-ltb (r .calls .left) (r .calls .call + openPrice) (omega (arith, a .leftIs, arguments-last (a .ended) (a .hand))))
+          (subst (λ (j : List Call). Sim (M.applyMarked (M.charged 1 r) (lent (set (M.endArgument r l) (r .calls .left) mark) o)) (S.perform L (deed (S.reading (s .bodies)) (S.listOf k) (s .standing .definitions)) k j (S.noting (S.charge s + 1) s))) ksEq
           (subst (λ (j : Call). Sim (M.applyMarked (M.charged 1 r) (lent (set (M.endArgument r l) (r .calls .left) mark) o)) (S.perform L (deed (S.reading (s .bodies)) (S.listOf j) (s .standing .definitions)) j (calls n (length builtIns) (a .under)) (S.noting (S.charge s + 1) s))) kEq
-          (markedSim a (noted (S.charge s + 1) oct)))
+          (markedSim a (noted (S.charge s + 1) oct))))
 
       go : (t : Bool) → S.ownCall s ≡ t → Sim (M.apply r x (lent l o)) (S.apply L t x s)
       go true e = rw (ownIs h ∙ e) (innermost e (s .calls) refl)

@@ -4,3 +4,4 @@ pub mod Items
 pub mod Frames
 pub mod Held
 pub mod Moving
+pub mod Carried

@@ -1,7 +1,7 @@
 -- The standing, the range of its numbers and what a function leaves, as the promise of `go_on` has them (specs/Moving); then what
 -- each function of the code does, exactly, for any content of the cells: one definition for each function. Those nobody has to
 -- believe: proofs/ shows that they are the scanning of crate language.
-use Prim.Native.Nat.{ℕ, _+_, _-_, _%_, _≤_, _<_, max}
+use Prim.Native.Nat.{ℕ, zero, suc, _+_, _-_, _%_, _≤_, _<_, max}
 use mathlib.Core.Path.{_≡_}
 use mathlib.Core.Bool.{Bool, true, false, cond}
 use mathlib.Core.List.{List}
@@ -135,18 +135,21 @@ pub record InRange (n k : ℕ) (r : Run) : Type 0 where
   pub ready : Ready n r
   pub written : r .counts .written ≤ k
 
--- the same once the cell of an applying `;` is charged and the mark stands in it
-pub record Marked (n : ℕ) (r : Run) : Type 0 where
+-- the same once the cell of an applying `;` is charged and the mark stands in it, and `kept` cells are charged for a result
+pub record Resulting (n kept : ℕ) (r : Run) : Type 0 where
   pub cellsLent : n ≤ cellsLimit
-  pub ordered : r .calls .left < r .right
+  pub within : r .charge ≤ n
   pub inside : r .right ≤ n
-  pub carried : r .charge + r .right ≡ r .calls .left + 1 + n
-  pub callBelow : r .calls .call ≤ nowhere
+  pub carried : r .charge + r .right ≡ r .calls .left + 1 + kept + n
+  pub opened : r .calls .call + openPrice ≤ r .calls .left
   pub listBelow : r .source .list ≤ nowhere
   pub bodyBelow : r .source .body ≤ nowhere
   pub offsetBelow : r .source .offset ≤ 4294967296
   pub quotesBelow : r .quotes ≤ r .counts .scans
   pub liveBelow : r .counts .live ≤ cellsLimit
+
+abbrev pub Marked : ℕ → Run → Type 0
+Marked n r = Resulting n 0 r
 
 -- What a function leaves: the standing, the answer and what is lent.
 pub record After : Type 0 where
@@ -293,19 +296,18 @@ endBody r m =
 
 -- Built-ins, the `;` being charged -----------------------------------------------------------------------------------
 
--- the call ends: its list goes, with what was defined since its `$`; `kept` cells stand in place of the list
-abbrev pub released : Run → ℕ → ℕ → ℕ → ℕ → ℕ → Run
-released r kept to around gone n =
+-- The call ends: its list goes with its `;`, and what was defined since its `$`; `kept` cells stand in place of the list.
+abbrev pub released : Run → ℕ → ℕ → ℕ → ℕ → Run
+released r kept to around gone =
     withCalls (record { left = r .calls .call + kept; call = low around; hand = high around })
-    (withRight to (withCharge (r .calls .call + kept + (n - to)) (withLive (r .counts .live - gone) r)))
+    (withRight to
+    (withCharge (r .charge - (r .calls .left - r .calls .call + 1 + (to - r .right))) (withLive (r .counts .live - gone) r)))
 
 abbrev pub releaseTo : Run → ℕ → ℕ → ℕ → ℕ → Lent → After
 releaseTo r kept to around gone m =
     cond (ltb to (r .right)) (damaged r m)
     (cond (ltb (length (m .cells)) to) (damaged r m)
-    (cond (ltb to (r .calls .call + kept)) (damaged r m)
-    (cond (ltb (r .counts .live) gone) (damaged r m)
-    (goes (released r kept to around gone (length (m .cells))) m))))
+    (cond (ltb (r .counts .live) gone) (damaged r m) (goes (released r kept to around gone) m)))
 
 abbrev pub release : Run → ℕ → Lent → After
 release r kept m =
@@ -455,10 +457,8 @@ listMoved r list size l =
 abbrev pub readBody : Run → ℕ → Lent → After
 readBody r definition m =
     let size = r .calls .left - r .calls .call + 1 in
-    cond (ltb (r .calls .left) (r .calls .call + openPrice)) (damaged r m)
-    (cond (ltb (r .right) size) (damaged r m)
-    (goes (bodyBegun r definition (r .right - size) (returnLink (m .cells) (r .calls .call)))
-    (withCells (listMoved r (r .right - size) size (m .cells)) m)))
+    goes (bodyBegun r definition (r .right - size) (returnLink (m .cells) (r .calls .call)))
+    (withCells (listMoved r (r .right - size) size (m .cells)) m)
 
 abbrev pub applyFound : Run → ℕ → Lent → After
 applyFound r definition m = cond (eqb definition nowhere) (applyBuiltIn r (r .calls .call + argumentsFrom) m) (readBody r definition m)
@@ -469,7 +469,8 @@ applyMarked r m = applyFound r (newest (m .cells) (r .right) (r .source .list) (
 abbrev pub applyCall : Run → Lent → After
 applyCall r m =
     cond (leb (length (m .cells)) (r .charge)) (ends Outcomes.noCellsLeft r m)
-    (applyMarked (charged 1 r) (withCells (set (endArgument r (m .cells)) (r .calls .left) mark) m))
+    (cond (ltb (r .calls .left) (r .calls .call + openPrice)) (damaged r m)
+    (applyMarked (charged 1 r) (withCells (set (endArgument r (m .cells)) (r .calls .left) mark) m)))
 
 abbrev pub apply : Run → ℕ → Lent → After
 apply r b m =
@@ -523,3 +524,10 @@ unfoldable pub step : Run → List ℕ → List ℕ → Lent → After
 step r kinds text m =
     let r₁ = scanned r in
     cond (eqb (r .source .list) nowhere) (scanText r₁ kinds text m) (scanBody r₁ kinds m)
+
+-- Scan after scan, so many times, while the run goes on.
+unfoldable pub steps : ℕ → List ℕ → List ℕ → After → After
+steps zero kinds text a = a
+steps (suc k) kinds text a =
+    let b = steps k kinds text (step (a .run) kinds text (a .lent)) in
+    cond (goesOn (a .answer)) b a

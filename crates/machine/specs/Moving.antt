@@ -7,7 +7,7 @@ use lib.Dec.{eqb, leb, ltb}
 use Rattle.language.specs.Signs.{Bytes, Table, language, cellsLimit}
 use Rattle.language.specs.BuiltIns.{builtIns}
 use Rattle.language.specs.Octets.{HoldsOctets}
-use Rattle.language.specs.Scanning.{State, Step, next, stop, scans}
+use Rattle.language.specs.Scanning.{State, Step, next, stop, charge, scans}
 use Rattle.language.specs.Expansion.{Lent, limitsOf}
 use Rattle.machine.specs.declared.run.Run.{Run}
 use Rattle.machine.specs.declared.run.Answer.the-variants.{GoesOn, Refused}
@@ -41,6 +41,8 @@ pub record Holds (text start : Bytes) (r : Run) (m : Lent) (s : State) : Type 0 
   pub represents : Represents (length (m .cells)) builtIns text start r m s
   pub octets : HoldsOctets s
   pub inRange : InRange (length (m .cells)) (length (m .output)) r
+  -- "The figure is the one document 01 defines": what is carried is the sum over all lists and live definitions
+  pub carries : r .charge ≡ charge s
 
 -- what the call leaves is what the scans came to: a state that goes on, or an end
 abbrev pub Comes : Bytes → Bytes → Stepped → Lent → Step → Type 0

@@ -38,6 +38,9 @@ impl Run {
         if self.charge >= cells.len() {
             return self.ends_with(outcomes::NO_CELLS_LEFT);
         }
+        if self.calls.left < self.calls.call + layout::OPEN_SIZE {
+            return self.damaged();
+        }
         self.end_argument(cells);
         memory::write(cells, self.calls.left, layout::MARK);
         self.charged(1).apply_marked(cells, output)
@@ -62,14 +65,7 @@ impl Run {
         ensures { λ r. ⌜ ((o : List ℕ) → leaves r (lent (now (cells .exit)) o) ≡ readBody self definition (lent (now (cells .entry)) o)) ⌝ }
     {
         let call = self.calls.call;
-        let left = self.calls.left;
-        if left < call + layout::OPEN_SIZE {
-            return self.damaged();
-        }
-        let size = left - call + 1;
-        if self.right < size {
-            return self.damaged();
-        }
+        let size = self.calls.left - call + 1;
         let list = self.right - size;
         let around = layout::return_link(cells, call);
         self.move_list(list, size, cells);

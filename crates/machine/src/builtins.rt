@@ -16,8 +16,7 @@ ghost use Prim.Native.Nat.{ℕ, _+_, _≤_, _<_};
 ghost use lib.ListN.{length};
 ghost use Rattle.language.specs.Signs.{cellsLimit};
 ghost use Rattle.language.specs.Expansion.{lent};
-ghost use Rattle.machine.specs.Walks.{nowhere};
-ghost use Rattle.machine.specs.Machine.{Marked, leaves, release, releaseTo, released, defined, defineIn, def, refuseName, val, updateIn, update, perform, supplied, applyBuiltIn};
+ghost use Rattle.machine.specs.Machine.{Marked, Resulting, leaves, release, releaseTo, released, defined, defineIn, def, refuseName, val, updateIn, update, perform, supplied, applyBuiltIn};
 
 impl Run {
     // 15 for a name that is none of theirs.
@@ -74,7 +73,7 @@ impl Run {
 
     // The call ends: its list goes, with what was defined since its `$`; `kept` cells stand in place of the list.
     pub(crate) fn release(self, kept: usize, cells: &[u32]) -> Stepped
-        requires { ⌜ (length (now cells) ≤ cellsLimit) × (self .right ≤ cellsLimit) × (self .calls .call ≤ nowhere) × (kept ≤ cellsLimit) ⌝ }
+        requires { ⌜ Resulting (length (now cells)) kept self ⌝ }
         ensures { λ r. ⌜ ((o : List ℕ) → leaves r (lent (now (cells .entry)) o) ≡ release self kept (lent (now (cells .entry)) o)) ⌝ }
     {
         let call = self.calls.call;
@@ -85,7 +84,7 @@ impl Run {
     }
 
     fn release_to(self, kept: usize, to: usize, around: u32, gone: usize, len: usize) -> Stepped
-        requires { ⌜ (len ≤ cellsLimit) × (self .calls .call ≤ nowhere) × (kept ≤ cellsLimit) ⌝ }
+        requires { ⌜ Resulting len kept self ⌝ }
         ensures { λ r. ⌜ ((l o : List ℕ) → length l ≡ len → leaves r (lent l o) ≡ releaseTo self kept to around gone (lent l o)) ⌝ }
     {
         if to < self.right {
@@ -94,19 +93,19 @@ impl Run {
         if to > len {
             return self.damaged();
         }
-        if to < self.calls.call + kept {
-            return self.damaged();
-        }
         if self.counts.live < gone {
             return self.damaged();
         }
-        self.released(kept, to, around, gone, len).goes_on()
+        self.released(kept, to, around, gone).goes_on()
     }
 
-    fn released(mut self, kept: usize, to: usize, around: u32, gone: usize, len: usize) -> Run
-        requires { ⌜ (len ≤ cellsLimit) × (to ≤ len) × (self .calls .call ≤ nowhere) × (kept ≤ cellsLimit) × (gone ≤ self .counts .live) ⌝ }
-        ensures { λ r. ⌜ r ≡ released self kept to around gone len ⌝ }
+    // The charge is lowered by the list with its `;`, and by the definitions made since its `$`.
+    fn released(mut self, kept: usize, to: usize, around: u32, gone: usize) -> Run
+        requires { ⌜ (self .calls .call ≤ self .calls .left) × (self .calls .left ≤ cellsLimit) × (self .right ≤ to) × (to ≤ cellsLimit) × (self .calls .left + 1 + to ≤ self .charge + self .calls .call + self .right) × (kept ≤ cellsLimit) × (gone ≤ self .counts .live) ⌝ }
+        ensures { λ r. ⌜ r ≡ released self kept to around gone ⌝ }
     {
+        let list = self.calls.left - self.calls.call + 1;
+        let since = to - self.right;
         let left = self.calls.call + kept;
         let live = self.counts.live - gone;
         let calls = Calls {
@@ -117,7 +116,7 @@ impl Run {
         self.calls = calls;
         self.counts.live = live;
         self.right = to;
-        self.charge = left + (len - to);
+        self.charge = self.charge - (list + since);
         self
     }
 

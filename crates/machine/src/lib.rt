@@ -17,7 +17,7 @@ ghost use mathlib.Core.Path.{_≡_};
 ghost use Prim.Native.Nat.{_+_, _≤_};
 ghost use lib.ListN.{length};
 ghost use Rattle.language.specs.Expansion.{lent};
-ghost use Rattle.machine.specs.Machine.{InRange, lastScan};
+ghost use Rattle.machine.specs.Machine.{InRange, lastScan, leaves, goes, steps};
 ghost use Rattle.machine.specs.Moving.{portion, Advances, Moves};
 
 // At most so many scans from a standing, in the memory that holds it. A standing that cannot be is refused untouched.
@@ -59,7 +59,7 @@ fn advance(
     output: &mut [u8],
 ) -> Stepped
     requires { ⌜ (InRange (length (now cells)) (length (now output)) from) × (from .counts .scans + due ≤ lastScan) ⌝ }
-    ensures { λ r. ⌜ Advances (now (kinds .entry)) (now (text .entry)) due from (lent (now (cells .entry)) (now (output .entry))) r (lent (now (cells .exit)) (now (output .exit))) ⌝ }
+    ensures { λ r. ⌜ Advances (now (kinds .entry)) (now (text .entry)) due from (lent (now (cells .entry)) (now (output .entry))) r (lent (now (cells .exit)) (now (output .exit))) × (leaves r (lent (now (cells .exit)) (now (output .exit))) ≡ steps due (now (kinds .entry)) (now (text .entry)) (goes from (lent (now (cells .entry)) (now (output .entry))))) ⌝ }
 {
     let until = from.counts.scans + due;
     let mut run = from;

@@ -242,6 +242,7 @@ impl Run {
         self.body_ended(to, links, reader, gone).goes_on()
     }
 
+    // The charge is lowered by the list, and by the definitions made while it was collected.
     fn body_ended(mut self, to: usize, links: u32, reader: u32, gone: usize) -> Run
         requires { ⌜ (self .source .list ≤ to) × (self .right + to ≤ 4294967296) × (to ≤ self .source .list + self .charge) × (gone ≤ self .counts .live) ⌝ }
         ensures { λ r. ⌜ r ≡ bodyEnded self to links reader gone ⌝ }

@@ -28,7 +28,7 @@ returns c =
     let b = c .before .before .before .before in
     let b₂ = b .before .before .before .before in
     let yes = sym (b₂ .before .is-in-range .ensures) ∙ b₂ .if1 .taken in
-    record { refused = λ e. absurd (true≢false (sym yes ∙ e)); advanced = λ e. rw (b .before .before .before .portion .ensures .0) at (b .advance .ensures) }
+    record { refused = λ e. absurd (true≢false (sym yes ∙ e)); advanced = λ e. rw (b .before .before .before .portion .ensures .0) at (b .advance .ensures .0) }
 
 returns-2 : tie.Need-returns-2
 returns-2 c =

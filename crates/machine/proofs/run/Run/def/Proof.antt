@@ -38,7 +38,7 @@ define-in-requires : tie.Need-define-in-requires
 define-in-requires c κs =
     let b = c .before .before .before .before in
     let s = b .before .before .before .before .before .before .before in
-    let w = roomy (s .args .self) _ _ _ _ (lent _ []) (s .pre .0) (omega arith) (b .release .ensures []) (c .before .before .enum-told .given .1) in
+    let w = roomy (s .args .self) _ _ _ _ (lent _ []) (s .pre .0) (b .release .ensures []) (c .before .before .enum-told .given .1) in
     omega arith
 
 same-length-2 : tie.Need-same-length-2

@@ -16,20 +16,11 @@ damaged-requires-2 c κs = search needs
 returns-2 : tie.Need-returns-2
 returns-2 c = λ l o e. rw (e, le-ltb _ _ (c .before .before .if1 .left), lt-ltb _ _ (c .before .if2 .taken), c .damaged2 .ensures)
 
-add-if3 : tie.Need-add-if3
-add-if3 c = search needs
-
 damaged-requires-3 : tie.Need-damaged-requires-3
 damaged-requires-3 c κs = search needs
 
 returns-3 : tie.Need-returns-3
 returns-3 c = λ l o e. rw (e, le-ltb _ _ (c .before .before .before .before .if1 .left), le-ltb _ _ (c .before .before .before .if2 .left), lt-ltb _ _ (c .before .if3 .taken), c .damaged3 .ensures)
-
-damaged-requires-4 : tie.Need-damaged-requires-4
-damaged-requires-4 c κs = search needs
-
-returns-4 : tie.Need-returns-4
-returns-4 c = λ l o e. rw (e, le-ltb _ _ (c .before .before .before .before .before .before .if1 .left), le-ltb _ _ (c .before .before .before .before .before .if2 .left), le-ltb _ _ (c .before .before .before .if3 .left), lt-ltb _ _ (c .before .if4 .taken), c .damaged4 .ensures)
 
 released-requires : tie.Need-released-requires
 released-requires c κs = search needs
@@ -37,8 +28,8 @@ released-requires c κs = search needs
 goes-on-requires : tie.Need-goes-on-requires
 goes-on-requires c κs = search needs
 
-returns-5 : tie.Need-returns-5
-returns-5 c = λ l o e. rw (e, le-ltb _ _ (c .before .before .before .before .before .before .before .if1 .left), le-ltb _ _ (c .before .before .before .before .before .before .if2 .left), le-ltb _ _ (c .before .before .before .before .if3 .left), le-ltb _ _ (c .before .before .if4 .left), c .goes-on .ensures, c .before .released .ensures)
+returns-4 : tie.Need-returns-4
+returns-4 c = λ l o e. rw (e, le-ltb _ _ (c .before .before .before .before .before .if1 .left), le-ltb _ _ (c .before .before .before .before .if2 .left), le-ltb _ _ (c .before .before .if3 .left), c .goes-on .ensures, c .before .released .ensures)
 
 pub release-to-spec : {M : Type 1} → statement M
 release-to-spec =
@@ -48,11 +39,8 @@ release-to-spec =
     returns
     damaged-requires-2
     returns-2
-    add-if3
     damaged-requires-3
     returns-3
-    damaged-requires-4
-    returns-4
     released-requires
     goes-on-requires
-    returns-5)
+    returns-4)
