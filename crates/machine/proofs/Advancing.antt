@@ -221,8 +221,7 @@ module _ (T : Table) (text : Bytes) (n k : ℕ) where
         → length (m₀ .cells) ≡ n → length (m₀ .output) ≡ k
         → Advances T text due₀ r₀ m₀ st m′ × (M.leaves st m′ ≡ M.steps due₀ T text (M.goes r₀ m₀))
     ends st m′ is out c o =
-        let told : st .answer ≡ a .answer = ap (λ (j : After). j .answer) (sym is) in
-        (
+        let told : st .answer ≡ a .answer = ap (λ (j : After). j .answer) (sym is) in (
           record {
             answered = λ q. kept .told (sym told ∙ q);
             ranged = λ q. absurd (out (sym told ∙ q));
@@ -243,8 +242,7 @@ module _ (T : Table) (text : Bytes) (n k : ℕ) where
       → Advances T text due₀ r₀ m₀ (record { run = r; answer = GoesOn }) m × (M.goes r m ≡ M.steps due₀ T text (M.goes r₀ m₀))
   unfolding S.scans M.steps
   done {r = r} {m = m} {due₀ = due₀} {until} g over c o =
-      let none : until - r .counts .scans ≡ 0 = omega arith in
-      (
+      let none : until - r .counts .scans ≡ 0 = omega arith in (
         record {
           answered = λ q. let z : _≡_ {A = ℕ} 0 1 = cc in omega arith;
           ranged = λ q. rw (c, o) (g .inRange);
