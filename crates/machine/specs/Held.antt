@@ -107,6 +107,7 @@ pub record Represents (n : ℕ) (older : List Definition) (whole start : List �
   pub lies : Lies n older start (items n (length older) frames) r m (s .standing)
   pub cellsLent : n ≤ cellsLimit
   pub ordered : r .calls .left ≤ r .right
+  -- as many cells are in use as are charged
   pub carried : r .charge + r .right ≡ r .calls .left + n
   pub placesAre : placesOf r ≡ places n (length older) frames
   pub leftsAre : take (r .calls .left) (m .cells) ≡ lefts n (length older) frames
