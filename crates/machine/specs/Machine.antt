@@ -148,6 +148,7 @@ pub record Resulting (n kept : ℕ) (r : Run) : Type 0 where
   pub quotesBelow : r .quotes ≤ r .counts .scans
   pub liveBelow : r .counts .live ≤ cellsLimit
 
+-- and no result is charged
 abbrev pub Marked : ℕ → Run → Type 0
 Marked n r = Resulting n 0 r
 
