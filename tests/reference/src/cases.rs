@@ -1,5 +1,6 @@
-//! Scripts with known ends, worked out by hand from document 01 and document 02's requests One and Two, against both
+//! Scripts with known ends, worked out by hand from document 01 and document 02's requests One to Three, against both
 //! halves.
+mod charge_carried;
 mod own_signs;
 
 use crate::arithmetic::{reckon, Operation};

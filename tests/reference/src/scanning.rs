@@ -141,6 +141,13 @@ impl Body {
     }
 }
 
+/// What has gone in a run so far: the calls that have ended, and the definitions that went with their lists.
+#[derive(Clone, Copy, Debug, Default)]
+pub struct Gone {
+    pub calls: usize,
+    pub definitions: usize,
+}
+
 struct Machine<'a> {
     table: &'a Table,
     text: &'a [u8],
@@ -159,6 +166,7 @@ struct Machine<'a> {
     output: Vec<u8>,
     scans: u64,
     most: usize,
+    gone: Gone,
 }
 
 impl Call {
@@ -200,6 +208,7 @@ impl<'a> Machine<'a> {
             output: Vec::new(),
             scans: 0,
             most: 0,
+            gone: Gone::default(),
         }
     }
 
@@ -394,8 +403,11 @@ impl<'a> Machine<'a> {
 
     /// "The list of name and parameters goes, with every definition made while it was collected."
     fn end_list(&mut self, call: Call, applied: u64) {
+        let before = self.definitions.len();
         self.definitions
             .retain(|definition| definition.made < call.opened || definition.made > applied);
+        self.gone.calls += 1;
+        self.gone.definitions += before - self.definitions.len();
     }
 }
 
@@ -606,5 +618,20 @@ impl Row<'_> {
 
     pub fn charge(&self) -> usize {
         self.machine.charge()
+    }
+
+    /// The highest charge allowed so far.
+    pub fn most(&self) -> usize {
+        self.machine.most
+    }
+
+    pub fn gone(&self) -> Gone {
+        self.machine.gone
+    }
+
+    /// The live definitions, newest last: each name, and the length of the value that it was defined with.
+    pub fn definitions(&self) -> impl ExactSizeIterator<Item = (&[u8], usize)> {
+        let definitions = self.machine.definitions.iter();
+        definitions.map(|definition| (&*definition.name, definition.defined))
     }
 }

@@ -1,5 +1,6 @@
 //! One check: the library's run of a script against both definitions.
-use crate::fetching::{self, Ways};
+use crate::charging::{self, Course};
+use crate::fetching;
 use crate::lending;
 use crate::library;
 use crate::memory::Memory;
@@ -8,22 +9,43 @@ use reference::ends::{End, Report};
 use reference::scanning::{self, Lent};
 use reference::substitution::{substitute, Bounds};
 
-/// What a script's run is lent, and how it ends by scanning, with the ways that `~` went.
+/// What a script's run is lent, and how it ends by scanning, with the ways that `~` went and the course of the charge.
 pub struct Run {
     pub lent: Lent,
     pub scanned: End,
-    pub ways: Ways,
+    pub course: Course,
+    fetching: fetching::Ways,
+}
+
+/// The ways that a run came to, which are counted.
+pub struct Told {
+    pub fetching: fetching::Ways,
+    pub charging: charging::Ways,
 }
 
 impl Run {
     pub fn new(script: &Script, lent: Lent) -> Run {
-        let mut ways = Ways::default();
+        let (mut fetching, mut course) = (fetching::Ways::default(), Course::default());
         let scanned = scanning::run_traced(script.checked(), &script.text, &lent, &mut |row| {
             if let Some(way) = fetching::way(row) {
-                ways[way] = true;
+                fetching[way] = true;
             }
+            course.follow(row);
         });
-        Run { lent, scanned, ways }
+        Run {
+            lent,
+            scanned,
+            course,
+            fetching,
+        }
+    }
+
+    /// The ways, of a script whose charge comes so high with plenty lent.
+    pub fn told(&self, with_plenty: u64) -> Told {
+        Told {
+            fetching: self.fetching,
+            charging: self.course.ways(&self.scanned.report, with_plenty),
+        }
     }
 }
 

@@ -1,4 +1,5 @@
-//! One script: with plenty, about what it needs, and now and then about the longest that may be lent.
+//! One script: with plenty, about what it needs, often about a record of its charge, and now and then about the longest
+//! that may be lent.
 use crate::check::{check, substituted, Difference, Run};
 use crate::lending;
 use crate::memory::Memory;
@@ -15,12 +16,21 @@ pub fn runs(script: &Script, random: &mut Random) -> Vec<Run> {
     let plenty = lending::generous(&script.text, random);
     let first = Run::new(script, plenty);
     let need = first.scanned.report;
+    let records = first.course.inner_records().to_vec();
     let mut runs = vec![first];
     for _ in 0..if need.scans < LONG { 2 } else { 1 } {
         runs.push(Run::new(script, lending::around(&need, &plenty, random)));
     }
-    // Often where the signs are refused, as 2 comes before that.
-    if random.one_in(if need.outcome >= 30 { 8 } else { 250 }) {
+    if !records.is_empty() && random.one_in(4) {
+        runs.push(Run::new(script, lending::about_record(&records, &plenty, random)));
+    }
+    // Often where the signs are refused, as 2 comes before that, and always where the cells were soon too few.
+    let seldom = match need.outcome {
+        4 if need.scans < LONG => 1,
+        30.. => 8,
+        _ => 250,
+    };
+    if random.one_in(seldom) {
         runs.push(Run::new(script, lending::longest(&need, &plenty, random)));
     }
     runs
@@ -29,10 +39,11 @@ pub fn runs(script: &Script, random: &mut Random) -> Vec<Run> {
 /// Every check of one script, to the first difference.
 pub fn examine(memory: &mut Memory, script: &Script, runs: Vec<Run>, tally: &mut Tally) -> Result<(), Box<Difference>> {
     let substituted = substituted(script, &lending::bounds(runs.iter().map(|run| run.lent)));
+    let with_plenty = runs[0].scanned.report.most;
     for (place, run) in runs.into_iter().enumerate() {
-        let ways = run.ways;
+        let told = run.told(with_plenty);
         let report = check(memory, script, run, &substituted)?;
-        tally.count(script, &report, &ways, place == 0);
+        tally.count(script, &report, &told, place == 0);
     }
     Ok(())
 }

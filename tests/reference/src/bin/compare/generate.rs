@@ -1,4 +1,5 @@
 //! The mix of scripts.
+use crate::brim;
 use crate::faults::PLANTED;
 use crate::grower::grown;
 use crate::noise;
@@ -6,6 +7,11 @@ use crate::own_signs;
 use crate::random::Random;
 use crate::refused_signs;
 use crate::script::Script;
+use crate::soak;
+
+/// One script in so many is a soak script, and one in so many comes up to the most cells that may be lent.
+const SOAKS: usize = 25;
+const BRIMS: usize = 300;
 
 /// How many items a script is grown from: mostly few, seldom hundreds.
 fn size(random: &mut Random) -> usize {
@@ -29,6 +35,12 @@ fn long(random: &mut Random) -> Vec<u8> {
 fn text(random: &mut Random) -> Vec<u8> {
     if random.one_in(2_500) {
         return long(random);
+    }
+    if random.one_in(BRIMS) {
+        return brim::script(random);
+    }
+    if random.one_in(SOAKS) {
+        return soak::script(random);
     }
     let items = size(random);
     match random.below(100) {

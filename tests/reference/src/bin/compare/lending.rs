@@ -53,8 +53,22 @@ pub fn around(need: &Report, plenty: &Lent, random: &mut Random) -> Lent {
     }
 }
 
-/// Sizes about the longest that may be lent; the allowance has no bound where the script has an end.
+/// Cells about a record that the charge fell from and rose above later, mostly a late one: exactly so many, one fewer,
+/// one more. With exactly so many 4 comes where the charge rises above the record, after cells were freed.
+pub fn about_record(records: &[usize], plenty: &Lent, random: &mut Random) -> Lent {
+    let late = random.below(records.len()).max(random.below(records.len()));
+    let cells = match random.below(4) {
+        0..=1 => records[late],
+        2 => records[late] - 1,
+        _ => records[late] + 1,
+    };
+    Lent { cells, ..*plenty }
+}
+
+/// Sizes about the longest that may be lent, mostly as many cells as may be where plenty was not enough; the allowance
+/// has no bound where the script has an end.
 pub fn longest(need: &Report, plenty: &Lent, random: &mut Random) -> Lent {
+    let most_cells = need.outcome == 4 && !random.one_in(4);
     let mut size = |plenty: usize| {
         if random.one_in(2) {
             random.between(LONGEST - 1, LONGEST + 2)
@@ -62,7 +76,10 @@ pub fn longest(need: &Report, plenty: &Lent, random: &mut Random) -> Lent {
             plenty
         }
     };
-    let (cells, output) = (size(plenty.cells), size(plenty.output));
+    let (cells, output) = (
+        size(if most_cells { LONGEST } else { plenty.cells }),
+        size(plenty.output),
+    );
     Lent {
         cells,
         output,

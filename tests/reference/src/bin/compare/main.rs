@@ -2,8 +2,10 @@
 //!
 //!     compare [--bare] SEED COUNT     scripts 0 to COUNT - 1 of a seed; bare lends memory without guards
 //!     compare --one SEED NUMBER       one script, shown
+mod brim;
 mod built_ins;
 mod calls;
+mod charging;
 mod check;
 mod definitions;
 mod examine;
@@ -24,6 +26,7 @@ mod reduce;
 mod refused_signs;
 mod script;
 mod signing;
+mod soak;
 mod tally;
 mod tell;
 

@@ -1,12 +1,16 @@
-//! How often each outcome was come to, each way that `~` went, and each row about signs that are lent.
-use crate::fetching::{Ways, WAYS};
+//! How often each outcome was come to, each way that `~` went, each way that the charge went, and each row about signs
+//! that are lent.
+use crate::charging;
+use crate::check::Told;
+use crate::fetching;
 use crate::script::Script;
 use crate::signing::{self, ROWS};
 use reference::ends::Report;
 
 const OUTCOMES: usize = 33;
-/// The ways are counted in the places after the outcomes, and the rows in those after the ways.
-const FIRST_ROW: usize = OUTCOMES + WAYS.len();
+/// The ways of `~` are counted in the places after the outcomes, then those of the charge, and then the rows.
+const FIRST_OF_CHARGE: usize = OUTCOMES + fetching::WAYS.len();
+const FIRST_ROW: usize = FIRST_OF_CHARGE + charging::WAYS.len();
 const PLACES: usize = FIRST_ROW + ROWS.len();
 
 /// Each must occur, so that a comparison that never comes to it does not pass. Few texts are so long as to give 2, and
@@ -21,16 +25,23 @@ fn asked(place: usize) -> bool {
 fn label(place: usize) -> String {
     match place {
         FIRST_ROW.. => ROWS[place - FIRST_ROW].0.to_string(),
-        OUTCOMES.. => WAYS[place - OUTCOMES].to_string(),
+        FIRST_OF_CHARGE.. => charging::WAYS[place - FIRST_OF_CHARGE].to_string(),
+        OUTCOMES.. => fetching::WAYS[place - OUTCOMES].to_string(),
         _ => place.to_string(),
     }
 }
 
+/// The places of the ways that a run came to, from the first of them on.
+fn places_of(ways: &[bool], first: usize) -> impl Iterator<Item = usize> + '_ {
+    (first..).zip(ways).filter(|(_, &came)| came).map(|(place, _)| place)
+}
+
 /// The places that a run counts in.
-fn places<'a>(script: &'a Script, report: &'a Report, ways: &'a Ways) -> impl Iterator<Item = usize> + 'a {
-    let ways = (0..WAYS.len()).filter(|&way| ways[way]).map(|way| OUTCOMES + way);
+fn places<'a>(script: &'a Script, report: &'a Report, told: &'a Told) -> impl Iterator<Item = usize> + 'a {
     let rows = signing::rows(script, report).into_iter();
-    ways.chain(rows.map(|row| FIRST_ROW + row))
+    places_of(&told.fetching, OUTCOMES)
+        .chain(places_of(&told.charging, FIRST_OF_CHARGE))
+        .chain(rows.map(|row| FIRST_ROW + row))
         .chain([report.outcome as usize])
 }
 
@@ -55,8 +66,8 @@ impl Tally {
         }
     }
 
-    pub fn count(&mut self, script: &Script, report: &Report, ways: &Ways, plenty: bool) {
-        for place in places(script, report, ways) {
+    pub fn count(&mut self, script: &Script, report: &Report, told: &Told, plenty: bool) {
+        for place in places(script, report, told) {
             self.all[place] += 1;
             self.with_plenty[place] += u64::from(plenty);
         }
