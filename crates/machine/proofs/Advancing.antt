@@ -1,31 +1,22 @@
 -- Scan after scan: what the exported call promises.
-use Prim.Native.Nat.{ℕ, zero, suc, _+_, _-_, _≤_, _<_}
+use Prim.Native.Nat.{ℕ, suc, _+_, _-_, _≤_, _<_}
 use native.Mathlib.Omega.{arith}
 use mathlib.Core.Path.{_≡_, refl, sym, ap, subst, _∙_}
 use mathlib.Core.Bool.{Bool, true, false, cond, true≢false}
-use mathlib.Core.List.{List}
 use lib.ListN.{length, getD}
 use lib.Dec.{eqb, ltb}
 use borrow.Author.Tests.{ltb-false, leb-true, le-ltb, le-leb, eqb-true, eq-eqb}
-use Rattle.language.specs.Signs.{Bytes, Table, language, cellsLimit}
-use Rattle.language.specs.BuiltIns.{builtIns}
-use Rattle.language.specs.Scanning.{State, Step, next, stop, Limits}
-use Rattle.language.specs.Scanning as S
-use Rattle.language.specs.Expansion.{Lent, limitsOf}
-use Rattle.language.proofs.Leads.{onNext, scans-stop}
-use Rattle.language.proofs.Octets.{octets-kept}
-use Rattle.language.proofs.Demand.{builtIns-free}
+use Rattle.language.specs.Signs.{Bytes, Table, cellsLimit}
+use Rattle.language.specs.Expansion.{Lent}
 use Rattle.machine.specs.declared.run.Run.{Run}
 use Rattle.machine.specs.declared.run.Answer.{Answer}
-use Rattle.machine.specs.declared.run.Answer.the-variants.{GoesOn, Ended, Damaged, Refused}
+use Rattle.machine.specs.declared.run.Answer.the-variants.{GoesOn, Refused}
 use Rattle.machine.specs.declared.run.Stepped.{Stepped}
 use Rattle.machine.specs.Machine as M
 use Rattle.machine.specs.Machine.{After, Ready, InRange, lastScan}
-use Rattle.machine.specs.Held.{EndsAs}
-use Rattle.machine.specs.Moving.{isInRange, Holds, Comes, Advances}
-use Rattle.machine.proofs.Represents.{Simulates, goes, stops, outputSize, chargeIs}
-use Rattle.machine.proofs.Simulating.{stepSim}
+use Rattle.machine.specs.Moving.{isInRange, Advances}
 use Rattle.machine.proofs.Keeping.{Kept, stepKept}
+use Rattle.machine.proofs.Steps.{steps-ended, moving}
 
 -- The test of a standing ---------------------------------------------------------------------------------------------
 
@@ -58,7 +49,7 @@ in-range r n k e =
         cellsLent = ltb-false _ _ (a .0);
         ordered = ltb-false _ _ (c .0);
         inside = ltb-false _ _ (b .0);
-        carried = eqb-true _ _ (f .0);
+        inUse = eqb-true _ _ (f .0);
         callBelow = ltb-false _ _ (i .0);
         handBelow = ltb-false _ _ (j .0);
         listBelow = ltb-false _ _ (o .0);
@@ -78,8 +69,8 @@ range-in r n k h =
       le-ltb cellsLimit n (s .cellsLent),
       le-ltb n (r .right) (s .inside),
       le-ltb (r .right) (r .calls .left) (s .ordered),
-      le-ltb n (r .charge) (omega (arith, s .carried, s .ordered, s .inside)),
-      eq-eqb (r .charge + r .right) (r .calls .left + n) (s .carried),
+      le-ltb n (r .charge) (omega (arith, s .inUse, s .ordered, s .inside)),
+      eq-eqb (r .charge + r .right) (r .calls .left + n) (s .inUse),
       le-ltb cellsLimit (r .counts .live) (s .liveBelow),
       le-ltb k (r .counts .written) (h .written),
       le-ltb 65535 (r .calls .call) (s .callBelow),
@@ -90,30 +81,9 @@ range-in r n k h =
       le-leb (r .quotes) (r .counts .scans) (omega (arith, s .quotesBelow)),
     )
 
--- no scan follows an end
-pub steps-ended : (k : ℕ) (kinds text : List ℕ) (a : After) → (a .answer ≡ GoesOn → ⊥) → M.steps k kinds text a ≡ a
-unfolding M.steps
-steps-ended zero kinds text a out = refl
-steps-ended (suc k) kinds text a out = go (a .answer) out
-  where
-    go : (t : Answer) → (t ≡ GoesOn → ⊥) → cond (M.goesOn t) (M.steps k kinds text (M.step (a .run) kinds text (a .lent))) a ≡ a
-    go GoesOn over = absurd (over refl)
-    go (Ended c) over = refl
-    go Damaged over = refl
-    go Refused over = refl
-
 -- Between two scans --------------------------------------------------------------------------------------------------
 
 module _ (T : Table) (text : Bytes) (n k : ℕ) where
-  abbrev L : Limits
-  L = limitsOf n k
-
-  -- the state that was come to, from which the rest leads where all leads
-  pub record Onward (start : Bytes) (all : Step) (r : Run) (m : Lent) (due : ℕ) : Type 0 where
-    pub state : State
-    pub held : Holds text start r m state
-    pub rest : all ≡ S.scans L (language T) due (next state)
-
   -- what the loop keeps until so many scans are made: r₀ and m₀ stood before its first one
   pub record Going (r₀ : Run) (m₀ : Lent) (due₀ : ℕ) (r : Run) (m : Lent) (until : ℕ) : Type 0 where
     pub cells : length (m .cells) ≡ n
@@ -122,7 +92,6 @@ module _ (T : Table) (text : Bytes) (n k : ℕ) where
     pub inRange : InRange n k r
     pub counted : until ≤ lastScan
     pub made : M.steps due₀ T text (M.goes r₀ m₀) ≡ M.steps (until - r .counts .scans) T text (M.goes r m)
-    pub onward : (start : Bytes) (s : State) → Holds text start r₀ m₀ s → Onward start (S.scans L (language T) due₀ (next s)) r m (until - r .counts .scans)
 
   pub begins : (r : Run) (m : Lent) (due : ℕ) → length (m .cells) ≡ n → length (m .output) ≡ k → ((i : ℕ) → getD (m .cells) i 0 < 4294967296)
       → InRange n k r → r .counts .scans + due ≤ lastScan → Going r m due r m (r .counts .scans + due)
@@ -135,8 +104,16 @@ module _ (T : Table) (text : Bytes) (n k : ℕ) where
         inRange = h;
         counted = t;
         made = ap (λ (j : ℕ). M.steps j T text (M.goes r m)) all;
-        onward = λ start s x. record { state = s; held = x; rest = ap (λ (j : ℕ). S.scans L (language T) j (next s)) all };
       }
+
+  -- what so many scans leave is what is promised
+  advances : {r₀ : Run} {m₀ m′ : Lent} {due₀ : ℕ} {st : Stepped} → M.leaves st m′ ≡ M.steps due₀ T text (M.goes r₀ m₀)
+      → length (m₀ .cells) ≡ n → length (m₀ .output) ≡ k → length (m′ .cells) ≡ n → length (m′ .output) ≡ k
+      → (st .answer ≡ Refused → ⊥) → (st .answer ≡ GoesOn → InRange n k (st .run))
+      → Advances T text due₀ r₀ m₀ st m′ × (M.leaves st m′ ≡ M.steps due₀ T text (M.goes r₀ m₀))
+  advances {r₀} {m₀} {m′} {due₀} {st} is c o cs os told ranged =
+      let inside : st .answer ≡ GoesOn → InRange (length (m₀ .cells)) (length (m₀ .output)) (st .run) = λ q. rw (c, o) (ranged q) in
+      (record { answered = told; ranged = inside; moves = moving T text due₀ r₀ m₀ st m′ is (cs ∙ sym c) (os ∙ sym o) inside }, is)
 
   module _ {r₀ r : Run} {m₀ m : Lent} {due₀ until : ℕ} (g : Going r₀ m₀ due₀ r m until) (some : r .counts .scans < until)
       (a : After) (e : a ≡ M.step r T text m) (cs : length (a .lent .cells) ≡ n) (os : length (a .lent .output) ≡ k) where
@@ -157,48 +134,6 @@ module _ (T : Table) (text : Bytes) (n k : ℕ) where
         ∙ ap (λ (j : ℕ). M.steps j T text (M.goes r m)) more
         ∙ ap (λ (y : After). M.steps (until - (r .counts .scans + 1)) T text y) (sym e)
 
-    module _ {start : Bytes} {all : Step} (x : Onward start all r m (until - r .counts .scans)) where
-      simulated : Simulates n builtIns text start a (S.scan L (language T) (x .state))
-      simulated =
-          let h = x .held .represents in
-          let size : length start ≡ k = sym (outputSize (h .lies)) ∙ g .output in
-          subst (λ (y : After). Simulates n builtIns text start y (S.scan L (language T) (x .state))) (sym e)
-          (subst (λ (j : ℕ). Simulates n builtIns text start (M.step r T text m) (S.scan (limitsOf n j) (language T) (x .state))) size
-          (subst (λ (j : ℕ). Simulates j builtIns text start (M.step r T text m) (S.scan (limitsOf j (length start)) (language T) (x .state))) (g .cells)
-          (stepSim T h (x .held .octets))))
-
-      -- what the scan comes to leads where all leads
-      leads : (t : Step) → S.scan L (language T) (x .state) ≡ t → all ≡ S.scans L (language T) (until - (r .counts .scans + 1)) t
-      unfolding S.scans
-      leads t q =
-          let more : until - r .counts .scans ≡ suc (until - (r .counts .scans + 1)) = omega arith in
-          x .rest ∙ ap (λ (j : ℕ). S.scans L (language T) j (next (x .state))) more ∙ ap (λ (y : Step). S.scans L (language T) (until - (r .counts .scans + 1)) y) q
-
-      goesOnto : a .answer ≡ GoesOn → Onward start all (a .run) (a .lent) (until - a .run .counts .scans)
-      goesOnto out = go (S.scan L (language T) (x .state)) refl simulated
-        where
-          go : (t : Step) → S.scan L (language T) (x .state) ≡ t → Simulates n builtIns text start a t → Onward start all (a .run) (a .lent) (until - a .run .counts .scans)
-          go (next s) q (goes p h) = record {
-            state = s;
-            held = record {
-              represents = rw cs h;
-              octets = onNext (octets-kept L (language T) (x .state) (x .held .octets)) q;
-              inRange = rw (cs, os) (kept .kept out);
-              carries = sym (chargeIs builtIns-free h);
-            };
-            rest = leads (next s) q ∙ ap (λ (j : ℕ). S.scans L (language T) (until - j) (next s)) (sym (kept .counted out));
-          }
-          go (stop y) q (stops h) = let z : _≡_ {A = ℕ} 0 1 = cc (h .answer) in absurd (omega arith)
-
-      endsHere : (st : Stepped) (m′ : Lent) → a ≡ M.leaves st m′ → (a .answer ≡ GoesOn → ⊥) → Comes text start st m′ all
-      endsHere st m′ is out = go (S.scan L (language T) (x .state)) refl simulated
-        where
-          go : (t : Step) → S.scan L (language T) (x .state) ≡ t → Simulates n builtIns text start a t → Comes text start st m′ all
-          go (next s) q (goes p h) = absurd (out p)
-          go (stop y) q (stops h) =
-              let lead : all ≡ stop y = leads (stop y) q ∙ scans-stop L (language T) (until - (r .counts .scans + 1)) y in
-              rw lead (subst (λ (j : After). EndsAs builtIns start j y) is h)
-
     -- one more scan is made
     pub onceMore : a .answer ≡ GoesOn → a .run .counts .scans ≡ r .counts .scans + 1
     onceMore out = kept .counted out
@@ -214,21 +149,16 @@ module _ (T : Table) (text : Bytes) (n k : ℕ) where
           stepped
           ∙ ap (λ (y : Answer). M.steps (until - (r .counts .scans + 1)) T text (record { run = a .run; answer = y; lent = a .lent })) out
           ∙ ap (λ (j : ℕ). M.steps (until - j) T text (M.goes (a .run) (a .lent))) (sym (kept .counted out));
-      onward = λ start s h. goesOnto (g .onward start s h) out;
     }
 
-    pub ends : (st : Stepped) (m′ : Lent) → a ≡ M.leaves st m′ → (a .answer ≡ GoesOn → ⊥)
-        → length (m₀ .cells) ≡ n → length (m₀ .output) ≡ k
+    pub ends : (st : Stepped) (m′ : Lent) → a ≡ M.leaves st m′ → (a .answer ≡ GoesOn → ⊥) → length (m₀ .cells) ≡ n → length (m₀ .output) ≡ k
         → Advances T text due₀ r₀ m₀ st m′ × (M.leaves st m′ ≡ M.steps due₀ T text (M.goes r₀ m₀))
     ends st m′ is out c o =
-        let told : st .answer ≡ a .answer = ap (λ (j : After). j .answer) (sym is) in (
-          record {
-            answered = λ q. kept .told (sym told ∙ q);
-            ranged = λ q. absurd (out (sym told ∙ q));
-            moves = λ start s h. rw (c, o) (endsHere (g .onward start s h) st m′ is out);
-          },
-          sym (stepped ∙ steps-ended (until - (r .counts .scans + 1)) T text a out ∙ is),
-        )
+        let told : st .answer ≡ a .answer = ap (λ (j : After). j .answer) (sym is) in
+        let left : a .lent ≡ m′ = ap (λ (j : After). j .lent) is in
+        advances (sym (stepped ∙ steps-ended (until - (r .counts .scans + 1)) T text a out ∙ is)) c o
+        (ap (λ (y : Lent). length (y .cells)) (sym left) ∙ cs) (ap (λ (y : Lent). length (y .output)) (sym left) ∙ os)
+        (λ q. kept .told (sym told ∙ q)) (λ q. absurd (out (sym told ∙ q)))
 
   -- a scan can be made
   pub readyOf : {r₀ r : Run} {m₀ m : Lent} {due₀ until : ℕ} → Going r₀ m₀ due₀ r m until → r .counts .scans < until
@@ -240,16 +170,8 @@ module _ (T : Table) (text : Bytes) (n k : ℕ) where
   -- the last scan that was due is made
   pub done : {r₀ r : Run} {m₀ m : Lent} {due₀ until : ℕ} → Going r₀ m₀ due₀ r m until → until ≤ r .counts .scans → length (m₀ .cells) ≡ n → length (m₀ .output) ≡ k
       → Advances T text due₀ r₀ m₀ (record { run = r; answer = GoesOn }) m × (M.goes r m ≡ M.steps due₀ T text (M.goes r₀ m₀))
-  unfolding S.scans M.steps
+  unfolding M.steps
   done {r = r} {m = m} {due₀ = due₀} {until} g over c o =
-      let none : until - r .counts .scans ≡ 0 = omega arith in (
-        record {
-          answered = λ q. let z : _≡_ {A = ℕ} 0 1 = cc in omega arith;
-          ranged = λ q. rw (c, o) (g .inRange);
-          moves = λ start s h.
-              let x = g .onward start s h in
-              let at : S.scans L (language T) due₀ (next s) ≡ next (x .state) = x .rest ∙ ap (λ (j : ℕ). S.scans L (language T) j (next (x .state))) none in
-              rw (c, o) (rw at (refl, x .held));
-        },
-        sym (g .made ∙ ap (λ (j : ℕ). M.steps j T text (M.goes r m)) none),
-      )
+      let none : until - r .counts .scans ≡ 0 = omega arith in
+      advances (sym (g .made ∙ ap (λ (j : ℕ). M.steps j T text (M.goes r m)) none)) c o (g .cells) (g .output)
+      (λ q. let z : _≡_ {A = ℕ} 0 1 = cc in omega arith) (λ q. g .inRange)

@@ -41,7 +41,7 @@ pub record Applied (n : ℕ) (older : List Definition) (whole start : List ℕ) 
   pub lies : Lies n older start (since ++ items n (length older) under) r m (s .standing)
   pub cellsLent : n ≤ 65536
   pub room : r .calls .left + 1 ≤ r .right
-  pub carried : r .charge + r .right ≡ r .calls .left + 1 + n
+  pub inUse : r .charge + r .right ≡ r .calls .left + 1 + n
   pub callIs : r .calls .call ≡ places n (length older) under .left
   pub leftIs : r .calls .left ≡ r .calls .call + 3 + argumentsPrice (ended ++ (hand ∷ []))
   pub listIs : r .source .list ≡ places n (length older) under .list
@@ -155,7 +155,7 @@ appliedOf {n} {older} {whole} {start} {r} {l} {o} {s} free h own e =
           });
       cellsLent = h .cellsLent;
       room = fit;
-      carried = omega (arith, h .carried);
+      inUse = omega (arith, h .inUse);
       callIs = callEq;
       leftIs = omega arith;
       listIs = ap (λ (q : Places). q .list) placesEq;

@@ -212,7 +212,7 @@ module _ {n : ℕ} {older : List Definition} {whole start : List ℕ} {r : Run} 
           };
           cellsLent = a .cellsLent;
           ordered = omega (arith, a .leftIs, a .room);
-          carried = omega (arith, a .carried, a .leftIs, a .room);
+          inUse = omega (arith, a .inUse, a .leftIs, a .room);
           placesAre =
               ap (λ (j : ℕ). record { left = r .calls .call; call = low (packed (p .hand) (p .call)); hand = high (packed (p .hand) (p .call)); list = j; body = d; offset = 0 }) at′Is
               ∙ ap (λ (j : ℕ). record { left = j; call = low (packed (p .hand) (p .call)); hand = high (packed (p .hand) (p .call)); list = address n (I ∷ (a .since ++ U)); body = d; offset = 0 }) (a .callIs)
@@ -252,7 +252,7 @@ module _ {n : ℕ} {older : List Definition} {whole start : List ℕ} {r : Run} 
         arguments-last (a .ended) (a .hand),
         a .callIs,
         a .leftIs,
-        a .carried,
+        a .inUse,
         w .1,
       )
 
@@ -329,7 +329,7 @@ module _ {n : ℕ} {older : List Definition} {whole start : List ℕ} {r : Run} 
         };
         cellsLent = a .cellsLent;
         ordered = omega (arith, toAbove, a .leftIs);
-        carried = omega (arith, w .1, a .carried, a .leftIs);
+        inUse = omega (arith, w .1, a .inUse, a .leftIs);
         placesAre = ap (λ (j : ℕ). record { left = j; call = low (packed (p .hand) (p .call)); hand = high (packed (p .hand) (p .call)); list = r .source .list; body = r .source .body; offset = r .source .offset }) z ∙ placesLeft ∙ sym pl;
         leftsAre = ap (λ (j : ℕ). take j l′) z ∙ low′ ∙ takeCall ∙ sym le;
         callsAre = sym ca;

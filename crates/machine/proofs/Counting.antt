@@ -1,5 +1,5 @@
 -- Counts, quotes and the position in the source: what changes them changes nothing in the cells.
-use Prim.Native.Nat.{ℕ, _+_, _-_}
+use Prim.Native.Nat.{ℕ, _+_}
 use native.Mathlib.Omega.{arith}
 use mathlib.Core.Path.{_≡_, refl, sym, ap, _∙_}
 use mathlib.Core.List.{List, _∷_}
@@ -30,7 +30,7 @@ module _ {n : ℕ} {older : List Definition} {whole start : List ℕ} {r : Run} 
     };
     cellsLent = h .cellsLent;
     ordered = h .ordered;
-    carried = h .carried;
+    inUse = h .inUse;
     placesAre = h .placesAre;
     leftsAre = h .leftsAre;
     callsAre = h .callsAre;
@@ -53,7 +53,7 @@ module _ {n : ℕ} {older : List Definition} {whole start : List ℕ} {r : Run} 
     };
     cellsLent = h .cellsLent;
     ordered = h .ordered;
-    carried = h .carried;
+    inUse = h .inUse;
     placesAre = h .placesAre;
     leftsAre = h .leftsAre;
     callsAre = h .callsAre;
@@ -77,7 +77,7 @@ module _ {n : ℕ} {older : List Definition} {whole start : List ℕ} {r : Run} 
     };
     cellsLent = h .cellsLent;
     ordered = h .ordered;
-    carried = h .carried;
+    inUse = h .inUse;
     placesAre = h .placesAre;
     leftsAre = h .leftsAre;
     callsAre = h .callsAre;
@@ -107,7 +107,7 @@ module _ {n : ℕ} {older : List Definition} {whole start : List ℕ} {r : Run} 
         });
         cellsLent = h .cellsLent;
         ordered = h .ordered;
-        carried = h .carried;
+        inUse = h .inUse;
         placesAre = rw (al .1, ← h .placesAre);
         leftsAre = h .leftsAre ∙ sym (advanceLefts n b fs k);
         callsAre = h .callsAre ∙ sym (advanceCalls n b fs k);

@@ -209,7 +209,7 @@ module _ {n : ℕ} {older : List Definition} {whole start : List ℕ} {r : Run} 
           };
           cellsLent = a .cellsLent;
           ordered = omega arith;
-          carried = omega (arith, a .carried, a .leftIs, rightTo a);
+          inUse = omega (arith, a .inUse, a .leftIs, rightTo a);
           placesAre =
               ap (λ (j : ℕ). record { left = j; call = low (packed (p .hand) (p .call)); hand = high (packed (p .hand) (p .call)); list = r .source .list; body = r .source .body; offset = r .source .offset }) z
               ∙ placesLeft a;

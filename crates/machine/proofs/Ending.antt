@@ -262,7 +262,7 @@ module _ {n : ℕ} {older : List Definition} {whole start : List ℕ} {r : Run} 
         });
         cellsLent = h .cellsLent;
         ordered = omega (arith, h .ordered);
-        carried = omega (arith, listEq, h .carried, h .ordered, w .0, w .1);
+        inUse = omega (arith, listEq, h .inUse, h .ordered, w .0, w .1);
         placesAre =
             ap (λ (k : ℕ). record { left = r .calls .left; call = r .calls .call; hand = r .calls .hand; list = k; body = high (packed (p .body) (p .offset)); offset = low (packed (p .body) (p .offset)) }) lowList
             ∙ ap (λ (k : ℕ). record { left = r .calls .left; call = r .calls .call; hand = r .calls .hand; list = p .list; body = k; offset = low (packed (p .body) (p .offset)) }) highBody

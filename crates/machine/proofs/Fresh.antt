@@ -40,7 +40,7 @@ freshHolds text m small oct = record {
     };
     cellsLent = small;
     ordered = zero-le;
-    carried = refl;
+    inUse = refl;
     placesAre = refl;
     leftsAre = refl;
     callsAre = refl;
@@ -54,7 +54,7 @@ freshHolds text m small oct = record {
       cellsLent = small;
       ordered = zero-le;
       inside = omega arith;
-      carried = refl;
+      inUse = refl;
       callBelow = omega arith;
       handBelow = zero-le;
       listBelow = omega arith;

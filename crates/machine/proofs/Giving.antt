@@ -50,7 +50,7 @@ remost m h = record {
   };
   cellsLent = h .cellsLent;
   ordered = h .ordered;
-  carried = h .carried;
+  inUse = h .inUse;
   placesAre = h .placesAre;
   leftsAre = h .leftsAre;
   callsAre = h .callsAre;
@@ -116,7 +116,7 @@ module _ {n : ℕ} {older : List Definition} {whole start : List ℕ} {r : Run} 
   givenIn bs X c is = go (leb (r .charge + length bs) n) refl
     where
       below : r .charge ≤ n
-      below = omega (arith, a .carried, a .room, a .lies .stands .right)
+      below = omega (arith, a .inUse, a .room, a .lies .stands .right)
 
       chargeEq : S.charge s + (1 + length bs) ≡ r .charge + length bs
       chargeEq = omega (arith, chargeIs a free)
@@ -143,7 +143,7 @@ module _ {n : ℕ} {older : List Definition} {whole start : List ℕ} {r : Run} 
           let h = remost m (collectsPlaced free gone bs c₂ fit) in
           let z : r .calls .call + 0 ≡ r .calls .call = omega arith in
           let leftEq : r .calls .call + 0 + length bs ≡ r .calls .call + length bs = omega arith in
-          let chargeEq₂ : r .charge - went + length bs ≡ r .charge + length bs - went = omega (arith, a .carried, a .leftIs, a .lies .stands .right) in
+          let chargeEq₂ : r .charge - went + length bs ≡ r .charge + length bs - went = omega (arith, a .inUse, a .leftIs, a .lies .stands .right) in
           let cellsEq : placed (r .calls .call + 0) bs l ≡ X = ap (λ (k : ℕ). placed k bs l) z ∙ sym (is e) in
           let h₂ = subst (λ (k : List ℕ). Represents n older whole start (M.withMost m (M.collected (length bs) (M.released r 0 (address n U) links (count (a .since))))) (lent k o) (mostly m target)) cellsEq h in
           let h₃ = subst (λ (k : ℕ). Represents n older whole start (placedAt k (r .charge - went + length bs) m) (lent X o) (mostly m target)) leftEq h₂ in

@@ -23,6 +23,7 @@ pub mod Giving
 pub mod Performing
 pub mod Simulating
 pub mod Keeping
-pub mod Fresh
+pub mod Steps
 pub mod Advancing
+pub mod Fresh
 pub mod Carried

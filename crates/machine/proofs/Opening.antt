@@ -185,7 +185,7 @@ module _ {n : ℕ} {older : List Definition} {whole start : List ℕ} {r : Run} 
         };
         cellsLent = h .cellsLent;
         ordered = fit;
-        carried = omega (arith, h .carried);
+        inUse = omega (arith, h .inUse);
         placesAre = ap (λ (x : ℕ). record { left = r .calls .left + openPrice; call = r .calls .left; hand = x; list = r .source .list; body = r .source .body; offset = r .source .offset }) zero′ ∙ ap (λ (p : Places). opening p [] []) (h .placesAre);
         leftsAre = placedLow free h bs fit ∙ ap (λ (x : List ℕ). x ++ bs) (h .leftsAre)
             ∙ ap (λ (p : Places). lefts n b fs ++ (r .right ∷ p .list ∷ packed (p .hand) (p .call) ∷ w ∷ [])) (h .placesAre)
@@ -294,7 +294,7 @@ module _ {n : ℕ} {older : List Definition} {whole start : List ℕ} {r : Run} 
         });
         cellsLent = h .cellsLent;
         ordered = fit;
-        carried = omega (arith, h .carried);
+        inUse = omega (arith, h .inUse);
         placesAre = rw (el .1, ← h .placesAre);
         leftsAre = low ∙ sym (x .frames);
         callsAre = ap separateHead (h .callsAre) ∙ sym (endCalls n b (x .next) fs);

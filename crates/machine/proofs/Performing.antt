@@ -191,7 +191,7 @@ module _ {n : ℕ} {whole start : List ℕ} {r : Run} {l o : List ℕ} {s : Stat
           let fit : from + length v ≤ n = omega (arith, at .within, at .cells .fits) in
           rw (ne-eqb d nowhere (λ (e : d ≡ nowhere). absurd (omega (arith, at .below))), g, at .cells .named, at .cells .valued)
           (giveSim builtIns-free a v (moved from (r .calls .call) (length v) l) (copied from (r .counts .written) (length v) (lowBytes l) o)
-          (λ e. moved-in from (r .calls .call) (length v) l (omega (arith, a .lies .stands .size)) (omega (arith, a .lies .stands .size, a .carried, a .leftIs, a .room, a .lies .stands .right)) ∙ ap (λ (y : List ℕ). placed (r .calls .call) y l) (at .cells .valueIs))
+          (λ e. moved-in from (r .calls .call) (length v) l (omega (arith, a .lies .stands .size)) (omega (arith, a .lies .stands .size, a .inUse, a .leftIs, a .room, a .lies .stands .right)) ∙ ap (λ (y : List ℕ). placed (r .calls .call) y l) (at .cells .valueIs))
           (λ e. copied-in from (r .counts .written) (length v) (lowBytes l) o (omega (arith, a .lies .stands .size, length-lowBytes l)) (omega (arith, outputSize (a .lies), a .lies .wrote .written)) ∙ ap (λ (y : List ℕ). placed (r .counts .written) y o) (block-low from v l (at .cells .valueIs) vo)))
 
   -- UPDATE -----------------------------------------------------------------------------------------------------------
@@ -338,7 +338,7 @@ module _ {n : ℕ} {whole start : List ℕ} {r : Run} {l o : List ℕ} {s : Stat
           let bs = shortest z in
           let bytes = (answerOf (number z)) .decimal .bytes in
           giveSim builtIns-free a bs (copied 0 (r .calls .call) (length bs) bytes l) (copied 0 (r .counts .written) (length bs) bytes o)
-          (λ q. copied-in 0 (r .calls .call) (length bs) bytes l (omega (arith, x .short, x .size)) (omega (arith, a .lies .stands .size, a .carried, a .leftIs, a .room, a .lies .stands .right)) ∙ ap (λ (y : List ℕ). placed (r .calls .call) y l) (x .bytes))
+          (λ q. copied-in 0 (r .calls .call) (length bs) bytes l (omega (arith, x .short, x .size)) (omega (arith, a .lies .stands .size, a .inUse, a .leftIs, a .room, a .lies .stands .right)) ∙ ap (λ (y : List ℕ). placed (r .calls .call) y l) (x .bytes))
           (λ q. copied-in 0 (r .counts .written) (length bs) bytes o (omega (arith, x .short, x .size)) (omega (arith, outputSize (a .lies), a .lies .wrote .written)) ∙ ap (λ (y : List ℕ). placed (r .counts .written) y o) (x .bytes))
 
   -- A built-in -------------------------------------------------------------------------------------------------------

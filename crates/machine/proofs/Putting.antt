@@ -83,7 +83,7 @@ module _ {n : ℕ} {older : List Definition} {whole start : List ℕ} {r : Run} 
         });
         cellsLent = h .cellsLent;
         ordered = fit;
-        carried = omega (arith, h .carried);
+        inUse = omega (arith, h .inUse);
         placesAre = rw (cl .1, ← h .placesAre);
         leftsAre = lo ∙ rw (h .leftsAre, collectLefts n b bs fs c);
         callsAre = ap (putHand bs) (h .callsAre) ∙ sym (collectCalls n b bs fs);
@@ -113,7 +113,7 @@ module _ {n : ℕ} {older : List Definition} {whole start : List ℕ} {r : Run} 
     };
     cellsLent = h .cellsLent;
     ordered = h .ordered;
-    carried = h .carried;
+    inUse = h .inUse;
     placesAre = h .placesAre;
     leftsAre = h .leftsAre;
     callsAre = h .callsAre;
@@ -124,10 +124,10 @@ module _ {n : ℕ} {older : List Definition} {whole start : List ℕ} {r : Run} 
 
   -- the cells that are free
   pub roomIs : (k : ℕ) → r .charge + k ≤ n → r .calls .left + k ≤ r .right
-  roomIs k e = omega (arith, h .carried, h .lies .stands .right)
+  roomIs k e = omega (arith, h .inUse, h .lies .stands .right)
 
   chargeBelow : r .charge ≤ n
-  chargeBelow = omega (arith, h .carried, h .ordered, h .lies .stands .right)
+  chargeBelow = omega (arith, h .inUse, h .ordered, h .lies .stands .right)
 
   -- a block placed behind the left stack
   pub placedLow : (bs : Bytes) → r .calls .left + length bs ≤ r .right → take (r .calls .left + length bs) (placed (r .calls .left) bs l) ≡ take (r .calls .left) l ++ bs
@@ -251,7 +251,7 @@ module _ {n : ℕ} {older : List Definition} {whole start : List ℕ} {r : Run} 
   putByte x =
       putSim (x ∷ []) (M.collect r x (lent l o)) (M.write r x (lent l o))
       (λ c. chargingOne free h λ e.
-      let fit : r .calls .left < length l = omega (arith, h .carried, h .lies .stands .right, h .lies .stands .size) in
+      let fit : r .calls .left < length l = omega (arith, h .inUse, h .lies .stands .right, h .lies .stands .size) in
       subst (λ (z : List ℕ). Simulates n older whole start (M.goes (M.collected 1 r) (lent z o)) (next (S.withCalls (putHand (x ∷ []) (s .calls)) (S.noting (S.charge s + 1) s))))
       (sym (set-placed l (r .calls .left) x fit)) (goes refl (collectsPlaced free h (x ∷ []) c e)))
       (writingOne free h λ e.
@@ -266,7 +266,7 @@ module _ {n : ℕ} {older : List Definition} {whole start : List ℕ} {r : Run} 
       putSim bs (M.collectBlock r from (length bs) (lent l o)) (M.writeBlock r from (length bs) (lent l o))
       (λ c. charging free h (length bs) λ e.
       let q : moved from (r .calls .left) (length bs) l ≡ placed (r .calls .left) bs l =
-      moved-in from (r .calls .left) (length bs) l (omega (arith, h .lies .stands .size)) (omega (arith, h .carried, h .lies .stands .right, h .lies .stands .size)) ∙ ap (λ (z : List ℕ). placed (r .calls .left) z l) is in
+      moved-in from (r .calls .left) (length bs) l (omega (arith, h .lies .stands .size)) (omega (arith, h .inUse, h .lies .stands .right, h .lies .stands .size)) ∙ ap (λ (z : List ℕ). placed (r .calls .left) z l) is in
       subst (λ (z : List ℕ). Simulates n older whole start (M.goes (M.collected (length bs) r) (lent z o)) (next (S.withCalls (putHand bs (s .calls)) (S.noting (S.charge s + length bs) s))))
       (sym q) (goes refl (collectsPlaced free h bs c e)))
       (writing free h (length bs) λ e.

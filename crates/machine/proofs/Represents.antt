@@ -86,5 +86,5 @@ chargeIs {n} {older} z h =
       price-append (definitionsOf (items n b f)) older,
       ap (λ (p : Places). p .left) (h .placesAre),
       h .lies .stands .right,
-      h .carried,
+      h .inUse,
     )

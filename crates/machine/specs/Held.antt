@@ -108,7 +108,7 @@ pub record Represents (n : ℕ) (older : List Definition) (whole start : List �
   pub cellsLent : n ≤ cellsLimit
   pub ordered : r .calls .left ≤ r .right
   -- as many cells are in use as are charged
-  pub carried : r .charge + r .right ≡ r .calls .left + n
+  pub inUse : r .charge + r .right ≡ r .calls .left + n
   pub placesAre : placesOf r ≡ places n (length older) frames
   pub leftsAre : take (r .calls .left) (m .cells) ≡ lefts n (length older) frames
   pub callsAre : s .calls ≡ calls n (length older) frames

@@ -117,7 +117,7 @@ pub record Sound (n : ℕ) (r : Run) : Type 0 where
   pub cellsLent : n ≤ cellsLimit
   pub ordered : r .calls .left ≤ r .right
   pub inside : r .right ≤ n
-  pub carried : r .charge + r .right ≡ r .calls .left + n
+  pub inUse : r .charge + r .right ≡ r .calls .left + n
   pub callBelow : r .calls .call ≤ nowhere
   pub handBelow : r .calls .hand ≤ cellsLimit
   pub listBelow : r .source .list ≤ nowhere
@@ -140,7 +140,7 @@ pub record Resulting (n kept : ℕ) (r : Run) : Type 0 where
   pub cellsLent : n ≤ cellsLimit
   pub within : r .charge ≤ n
   pub inside : r .right ≤ n
-  pub carried : r .charge + r .right ≡ r .calls .left + 1 + kept + n
+  pub inUse : r .charge + r .right ≡ r .calls .left + 1 + kept + n
   pub opened : r .calls .call + openPrice ≤ r .calls .left
   pub listBelow : r .source .list ≤ nowhere
   pub bodyBelow : r .source .body ≤ nowhere

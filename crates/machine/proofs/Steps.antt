@@ -1,0 +1,90 @@
+-- Scans one after another in the cells are as many scans of the language.
+use Prim.Native.Nat.{ℕ, zero, suc}
+use native.Mathlib.Omega.{arith}
+use mathlib.Core.Path.{_≡_, refl, sym, ap, subst}
+use mathlib.Core.Bool.{cond}
+use mathlib.Core.List.{List}
+use lib.ListN.{length}
+use Rattle.language.specs.Signs.{Bytes, Table, language}
+use Rattle.language.specs.BuiltIns.{builtIns}
+use Rattle.language.specs.Octets.{HoldsOctets}
+use Rattle.language.specs.Scanning.{State, Step, next, stop, Limits, scan, scans}
+use Rattle.language.specs.Expansion.{Lent, limitsOf}
+use Rattle.language.proofs.Leads.{goesOn as leadsOn, onNext, scansLead, scans-stop}
+use Rattle.language.proofs.Octets.{octets-kept}
+use Rattle.language.proofs.Demand.{builtIns-free}
+use Rattle.machine.specs.declared.run.Run.{Run}
+use Rattle.machine.specs.declared.run.Answer.{Answer}
+use Rattle.machine.specs.declared.run.Answer.the-variants.{GoesOn, Ended, Damaged, Refused}
+use Rattle.machine.specs.declared.run.Stepped.{Stepped}
+use Rattle.machine.specs.Machine.{After, InRange, leaves, goes, goesOn, step, steps}
+use Rattle.machine.specs.Held.{Represents}
+use Rattle.machine.specs.Moving.{Holds, Comes}
+use Rattle.machine.proofs.Represents.{Simulates, goes as simulates, stops, outputSize, chargeIs}
+use Rattle.machine.proofs.Simulating.{stepSim}
+
+-- no scan follows an end
+pub steps-ended : (k : ℕ) (kinds text : List ℕ) (a : After) → (a .answer ≡ GoesOn → ⊥) → steps k kinds text a ≡ a
+unfolding steps
+steps-ended zero kinds text a out = refl
+steps-ended (suc k) kinds text a out = go (a .answer) out
+  where
+    go : (t : Answer) → (t ≡ GoesOn → ⊥) → cond (goesOn t) (steps k kinds text (step (a .run) kinds text (a .lent))) a ≡ a
+    go GoesOn over = absurd (over refl)
+    go (Ended c) over = refl
+    go Damaged over = refl
+    go Refused over = refl
+
+module _ (T : Table) (text first : Bytes) (n : ℕ) where
+  abbrev L : Limits
+  L = limitsOf n (length first)
+
+  -- from memory that represents a state
+  pub stepsSim : (k : ℕ) {r : Run} {m : Lent} {s : State} → Represents n builtIns text first r m s → HoldsOctets s
+      → Simulates n builtIns text first (steps k T text (goes r m)) (scans L (language T) k (next s))
+  unfolding steps scans
+  stepsSim zero h oct = simulates refl h
+  stepsSim (suc k) {r} {m} {s} h oct = by (scan L (language T) s) refl (stepSim T h oct) (λ s₁ x y. stepsSim k x y)
+    where
+      a : After
+      a = step r T text m
+
+      Goal : After → Step → Type 0
+      Goal y t = Simulates n builtIns text first (steps k T text y) (scans L (language T) k t)
+
+      by : (t : Step) → scan L (language T) s ≡ t → Simulates n builtIns text first a t
+          → ((s₁ : State) → Represents n builtIns text first (a .run) (a .lent) s₁ → HoldsOctets s₁ → Goal (goes (a .run) (a .lent)) (next s₁)) → Goal a t
+      by (next s₁) q (simulates e x) more =
+          let is : goes (a .run) (a .lent) ≡ a = ap (λ (y : Answer). record { run = a .run; answer = y; lent = a .lent }) (sym e) in
+          subst (λ (y : After). Goal y (next s₁)) is (more s₁ x (onNext (octets-kept L (language T) s oct) q))
+      by (stop y) q (stops x) more =
+          let over : a .answer ≡ GoesOn → ⊥ = λ e. let z : _≡_ {A = ℕ} 0 1 = cc (x .answer) in omega arith in
+          rw (steps-ended k T text a over, scans-stop L (language T) k y) (stops x)
+
+-- so a call that leaves what so many of them do, with its numbers in range where it goes on, comes to what the scanning comes to
+pub moving : (T : Table) (text : Bytes) (due : ℕ) (r : Run) (m : Lent) (st : Stepped) (m′ : Lent) → leaves st m′ ≡ steps due T text (goes r m)
+    → length (m′ .cells) ≡ length (m .cells) → length (m′ .output) ≡ length (m .output)
+    → (st .answer ≡ GoesOn → InRange (length (m .cells)) (length (m .output)) (st .run)) → (start : Bytes) (s : State) → Holds text start r m s
+    → Comes text start st m′ (scans (limitsOf (length (m .cells)) (length (m .output))) (language T) due (next s))
+moving T text due r m st m′ is cs os ranged start s x = go (scans L′ (language T) due (next s)) refl simulated
+  where
+    L′ : Limits
+    L′ = limitsOf (length (m .cells)) (length (m .output))
+
+    simulated : Simulates (length (m .cells)) builtIns text start (leaves st m′) (scans L′ (language T) due (next s))
+    simulated =
+        subst (λ (y : After). Simulates (length (m .cells)) builtIns text start y (scans L′ (language T) due (next s))) (sym is)
+        (subst (λ (j : ℕ). Simulates (length (m .cells)) builtIns text start (steps due T text (goes r m)) (scans (limitsOf (length (m .cells)) j) (language T) due (next s))) (sym (outputSize (x .represents .lies)))
+        (stepsSim T text start (length (m .cells)) due (x .represents) (x .octets)))
+
+    go : (t : Step) → scans L′ (language T) due (next s) ≡ t → Simulates (length (m .cells)) builtIns text start (leaves st m′) t → Comes text start st m′ t
+    go (next s₁) q (simulates e h) = (
+      e,
+      record {
+        represents = rw cs h;
+        octets = onNext (scansLead L′ (language T) (octets-kept L′ (language T)) due (next s) (leadsOn (x .octets))) q;
+        inRange = rw (cs, os) (ranged e);
+        carries = sym (chargeIs builtIns-free h);
+      },
+    )
+    go (stop y) q (stops h) = h
