@@ -454,11 +454,16 @@ fn updates() {
     ]);
 }
 
+/// What is read off the run after each scan.
+fn after_each_scan(script: &str, read: fn(&Row) -> usize) -> Vec<usize> {
+    let mut figures = Vec::new();
+    traced(script, &Lent::PROGRAM, &mut |row| figures.push(read(row)));
+    figures
+}
+
 /// The charge after each scan.
 fn charges(script: &str) -> Vec<usize> {
-    let mut charges = Vec::new();
-    traced(script, &Lent::PROGRAM, &mut |row| charges.push(row.charge()));
-    charges
+    after_each_scan(script, |row| row.charge())
 }
 
 #[test]

@@ -1,6 +1,6 @@
 //! Document 02's request Three: a charge carried from scan to scan is the sum at every scan; and charges worked out by
 //! hand, scan by scan.
-use super::{charges, check_lent, end, traced};
+use super::{after_each_scan, charges, check_lent, end, traced};
 use crate::scanning::{run, Lent, Row};
 
 /// A list: its bytes and commas, and how many definitions were made while it was collected, with their charge.
@@ -154,19 +154,12 @@ fn highest_charge_is_that_of_substitution() {
     }
 }
 
-/// The highest charge after each scan.
-fn highest(script: &str) -> Vec<usize> {
-    let mut highest = Vec::new();
-    traced(script, &Lent::PROGRAM, &mut |row| highest.push(row.most()));
-    highest
-}
-
 /// "Cells that are freed serve again, since 4 depends only on this sum": with fewer cells than a script needs, 4 comes
 /// at the first scan whose charge is above them.
 #[test]
 fn four_comes_where_the_sum_is_above_the_cells() {
     for script in five_pieces().step_by(61) {
-        let highest = highest(&script);
+        let highest = after_each_scan(&script, |row| row.most());
         for cells in 0..*highest.last().expect("a scan") {
             let lent = Lent { cells, ..Lent::PROGRAM };
             let report = run(script.as_bytes(), &lent).report;
