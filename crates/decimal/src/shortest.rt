@@ -32,7 +32,14 @@ impl Decimal {
         if value < 0 {
             return Decimal::new().with(b'-').with_digits(size);
         }
-        Decimal::new().with_digits(size)
+        Decimal::of_count(size)
+    }
+
+    // The shortest decimal of a count.
+    pub fn of_count(count: u32) -> Decimal
+        ensures { λ r. ⌜ r ≡ decimalOf (digits count) ⌝ }
+    {
+        Decimal::new().with_digits(count)
     }
 
     // One byte more, where there is room.

@@ -16,7 +16,7 @@ use Rattle.language.specs.Signs.{Bytes, ascii, standard, meaning, parame
 use Rattle.language.specs.Outcomes
 use Rattle.language.specs.Refusals.{refusedBy, sizesTooLarge, someBelow, countBelow, signRefusals}
 use Rattle.language.specs.Definitions.{macro, Definition, same, newest, altered, live, among}
-use Rattle.language.specs.BuiltIns.{builtIns, deed}
+use Rattle.language.specs.BuiltIns.{builtIns, chosen, deed}
 use Rattle.language.specs.Charge.{argumentsPrice, definitionsPrice}
 use Rattle.language.specs.Ends.{End, Reported, reported}
 use Rattle.language.specs.Scanning.{noLimits, run, scan, scans, callsCharge, bodiesCharge, reading}
@@ -147,6 +147,19 @@ shared =
     ("put together, then shown unquoted", "$DEF,m,<~><a>;$m;", "", report 13 17 0 18 13 1) ∷
     ("quoted where it is shown", "$DEF,m,<<~><a>>;$m;", "~a", report 0 19 2 27 17 1) ∷
     ("a letter in the text", "~a", "~a", report 0 2 2 3 0 0) ∷
+    -- Document 02, Four: SEQ, SIZE and IF
+    ("SEQ", "$SEQ,ab,ab;$SEQ,ab,abc;$SEQ,,;", "101", report 0 30 3 31 15 0) ∷
+    ("SIZE", "$SIZE,;$SIZE,abc;$SIZE,<,,,>,x;", "033", report 0 31 3 32 15 0) ∷
+    ("IF", "$IF,0,a,1,b,1,c;|$IF,0,a,1;|$IF,1,x;|", "b||x|", report 0 37 5 38 19 0) ∷
+    ("IF gives nothing", "$DEF,k,<[~1]>;$k,$IF,01,a,,b;;", "[]", report 0 30 2 35 30 1) ∷
+    ("13 of IF", "$IF,1;", "", report 13 6 0 6 9 0) ∷
+    ("13 of SEQ", "$SEQ,a;", "", report 13 7 0 7 10 0) ∷
+    ("13 of SIZE", "$SIZE;", "", report 13 6 0 6 9 0) ∷
+    ("19 by VAL of IF", "$VAL,IF;", "", report 19 8 0 8 11 0) ∷
+    ("19 by UPDATE of SEQ", "$UPDATE,SEQ,x;", "", report 19 14 0 14 17 0) ∷
+    ("a script defines IF", "$DEF,IF,<mine~1>;$IF,2;", "mine2", report 0 23 5 30 21 1) ∷
+    ("results collected", "$DEF,k,<[~1|~2]>;$k,$IF,$SEQ,a,a;,<x,y>;,$SIZE,abcd;;", "[x,y|4]", report 0 53 7 60 38 1) ∷
+    ("a choice is not scanned", "$DEF,j,J;$IF,1,<$j;>;", "$j;", report 0 21 3 22 19 1) ∷
     []
 
 -- scripts with letters in the language before request One
@@ -196,11 +209,11 @@ abbrev now : Language
 now = language standard
 
 pub cases-by-scanning : (failing (byScanning now) starred ≡ []) × (failing (byScanning now) shared ≡ []) × (failing (byScanning (digitsOnly standard)) before ≡ [])
-unfolding run scan scans same newest altered live among deed argumentsPrice definitionsPrice callsCharge bodiesCharge reading meaning operand digitsFrom digitsOf
+unfolding run scan scans same newest altered live among chosen deed argumentsPrice definitionsPrice callsCharge bodiesCharge reading meaning operand digitsFrom digitsOf
 cases-by-scanning = (refl, refl, refl)
 
 pub cases-by-substitution : (failing (bySubstitution now) starred ≡ []) × (failing (bySubstitution now) shared ≡ []) × (failing (bySubstitution (digitsOnly standard)) before ≡ [])
-unfolding substituted eval within same newest altered live among deed argumentsPrice definitionsPrice meaning operand digitsFrom digitsOf
+unfolding substituted eval within same newest altered live among chosen deed argumentsPrice definitionsPrice meaning operand digitsFrom digitsOf
 cases-by-substitution = (refl, refl, refl)
 
 -- Definitions that are left, by name, value and room, newest first -----------------------------------------------------------
@@ -332,6 +345,8 @@ lending =
     ("5 at a byte", 8, "wx", 100, "abc", "ab", report 5 3 2 3 0 0) ∷
     ("5 at a parameter, whole or not at all", 20, "wx", 100, "a$DEF,k,<~1>;$k,bc;", "ax", report 5 19 1 20 16 1) ∷
     ("4 before 5", 17, "wx", 100, "$DEF,k,abc;$VAL,k;", "wx", report 4 18 0 18 17 1) ∷
+    ("4 at a choice of IF that is collected, whole or not at all", 27, "wx", 100, "$k,$IF,1,abcdef;;", "wx", report 4 16 0 16 22 0) ∷
+    ("5 at a choice of IF", 16, "wxyz!", 100, "$IF,1,abcdef;", "wxyz!", report 5 13 0 13 16 0) ∷
     ("5 at a result", 18, "wx", 100, "$DEF,k,abc;$VAL,k;", "wx", report 5 18 0 18 18 1) ∷
     []
 
@@ -350,7 +365,7 @@ failingLending [] = []
 failingLending (c ∷ cs) = let r = failingLending cs in cond (byLending c) r (c .0 ∷ r)
 
 pub lendings : failingLending lending ≡ []
-unfolding expanded refusedBy someBelow countBelow cleared run scan scans same newest altered live among deed argumentsPrice definitionsPrice callsCharge bodiesCharge reading meaning
+unfolding expanded refusedBy someBelow countBelow cleared run scan scans same newest altered live among chosen deed argumentsPrice definitionsPrice callsCharge bodiesCharge reading meaning
 lendings = refl
 
 -- sizes at the limits and over them

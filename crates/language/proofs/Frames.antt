@@ -12,7 +12,7 @@ use Rattle.decimal.specs.Arithmetic.{Result, number, refused, calculated}
 use Rattle.language.specs.Signs.{Bytes, Language, Meaning, copied, leftOut, opens, separates, applies, fetches, unquotes, meaning}
 use Rattle.language.specs.Outcomes
 use Rattle.language.specs.declared.built_ins.BuiltIn.{BuiltIn}
-use Rattle.language.specs.declared.built_ins.BuiltIn.the-variants.{Def, Val, Update, Arithmetic}
+use Rattle.language.specs.declared.built_ins.BuiltIn.the-variants.{Def, Val, Update, Arithmetic, Seq, Size, If}
 use Rattle.language.specs.Definitions.{Content, macro, builtIn, Definition, defined, Found, found, missing, newest, same, among, altered, oldest, without}
 use Rattle.language.specs.BuiltIns.{Deed, reads, defines, gives, alters, faulty, deed, deedOf, performed, valueOf, updateOf, resultOf, parameter, needs}
 use Rattle.language.specs.Charge.{openPrice, endPrice, argumentsPrice, listPrice, definitionPrice, definitionsPrice}
@@ -123,6 +123,9 @@ performedAllowed busy list ds Def h = omega (arith, threeCost list h)
 performedAllowed busy list ds Val h = valueAllowed list ds (newest (parameter 1 list) ds)
 performedAllowed busy list ds Update h = updateAllowed list ds busy (parameter 2 list) (newest (parameter 1 list) ds)
 performedAllowed busy list ds (Arithmetic op) h = resultAllowed list ds (calculated op (parameter 1 list) (parameter 2 list))
+performedAllowed busy list ds Seq h = tt
+performedAllowed busy list ds Size h = tt
+performedAllowed busy list ds If h = tt
 
 pub deedAllowed : (busy : List ℕ) (list : List Bytes) (ds : List Definition) → Allowed list ds (deed busy list ds)
 unfolding deed

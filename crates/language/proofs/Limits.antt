@@ -17,7 +17,7 @@ use Rattle.language.specs.Signs.{Bytes, Language, Meaning, copied, leftO
 use Rattle.language.specs.Outcomes
 use Rattle.language.specs.Outcomes.{endOfText}
 use Rattle.language.specs.declared.built_ins.BuiltIn.{BuiltIn}
-use Rattle.language.specs.declared.built_ins.BuiltIn.the-variants.{Def, Val, Update, Arithmetic}
+use Rattle.language.specs.declared.built_ins.BuiltIn.the-variants.{Def, Val, Update, Arithmetic, Seq, Size, If}
 use Rattle.language.specs.Definitions.{macro, builtIn, Definition, Found, found, missing, newest, among}
 use Rattle.language.specs.BuiltIns.{Deed, reads, defines, gives, alters, faulty, deed, deedOf, valueOf, updateOf, resultOf, performed, parameter, needs}
 use Rattle.language.specs.Charge.{openPrice, endPrice, definitionsPrice}
@@ -158,6 +158,9 @@ performed-sound js list ds Def = tt
 performed-sound js list ds Val = value-sound (newest (parameter 1 list) ds)
 performed-sound js list ds Update = update-sound js (parameter 2 list) (newest (parameter 1 list) ds)
 performed-sound js list ds (Arithmetic op) = arithmetic-sound op (operand (parameter 1 list)) (operand (parameter 2 list))
+performed-sound js list ds Seq = tt
+performed-sound js list ds Size = tt
+performed-sound js list ds If = tt
 
 -- those of a call whose name was looked for
 found-sound : (js : List ℕ) (list : List Bytes) (ds : List Definition) (f : Found) → Sound (deedOf js list ds f)

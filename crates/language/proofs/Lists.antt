@@ -1,8 +1,11 @@
--- Laws about a choice and about every element of a list, for all that follows.
+-- Laws about a choice and about every element of a list, for all that follows; and about the choice of IF.
 use Prim.Native.Nat.{ℕ, zero, suc}
 use mathlib.Core.Bool.{Bool, true, false, cond}
-use mathlib.Core.List.{List, _++_}
+use mathlib.Core.List.{List, [], _++_}
 use lib.ListN.{take, drop, getD}
+use Rattle.language.specs.Signs.{Bytes, ascii}
+use Rattle.language.specs.Definitions.{same}
+use Rattle.language.specs.BuiltIns.{chosen}
 use Rattle.language.specs.Matched.{All, empty, with}
 
 -- whichever of two is taken, where both have a property
@@ -33,3 +36,10 @@ module _ {A : Type 0} {P : A → Type 0} where
   all-getD d z empty n = z
   all-getD d z (with p ps) zero = p
   all-getD d z (with p ps) (suc n) = all-getD d z ps n
+
+-- IF chooses one of its parameters or nothing: what holds of these holds of its choice
+pub all-chosen : {P : Bytes → Type 0} → P [] → {list : List Bytes} → All P list → P (chosen list)
+unfolding chosen
+all-chosen z empty = z
+all-chosen z (with p empty) = z
+all-chosen {P} z (with {x = first} p (with q ps)) = either P (same first (ascii "1")) q (all-chosen z ps)

@@ -10,12 +10,13 @@ use mathlib.Core.List.{List, [], _∷_, _++_}
 use mathlib.Core.Option.{Option, none, some}
 use lib.ListN.{length, drop, getD}
 use lib.Dec.{ltb, eqb}
+use lib.IntN.{pos}
 use Rattle.decimal.specs.Arithmetic.{Result, number, refused, calculated}
 use Rattle.decimal.proofs.Bytes.{Each, OfDecimal}
 use Rattle.decimal.proofs.Laws.{shortest-bytes}
 use Rattle.language.specs.Signs.{Bytes, Language, Meaning, copied, leftOut, opens, separates, applies, fetches, unquotes, meaning}
 use Rattle.language.specs.declared.built_ins.BuiltIn.{BuiltIn}
-use Rattle.language.specs.declared.built_ins.BuiltIn.the-variants.{Def, Val, Update, Arithmetic}
+use Rattle.language.specs.declared.built_ins.BuiltIn.the-variants.{Def, Val, Update, Arithmetic, Seq, Size, If}
 use Rattle.language.specs.Definitions.{Content, macro, builtIn, Definition, Found, found, missing, same, newest, valued, altered, oldest, among, counts, live}
 use Rattle.language.specs.BuiltIns.{Deed, reads, defines, gives, alters, faulty, builtIns, needs, parameter, valueOf, updateOf, resultOf, performed, deedOf, deed}
 use Rattle.language.specs.Charge.{openPrice, endPrice}
@@ -25,7 +26,7 @@ use Rattle.language.specs.Scanning as S
 use Rattle.language.specs.Matched.{All, empty, with}
 use Rattle.language.specs.Octets.{Octets, CallOctets, BodyOctets, ContentOctets, DefinitionOctets, HoldsOctets, EndsOctets}
 use Rattle.language.proofs.Leads.{Leads, goesOn, ended, chargingLeads, writingLeads, onNext, onStop, scansLead}
-use Rattle.language.proofs.Lists.{either, all-append, all-take, all-drop, all-getD}
+use Rattle.language.proofs.Lists.{either, all-append, all-take, all-drop, all-getD, all-chosen}
 
 -- What is shown ------------------------------------------------------------------------------------------------------
 
@@ -121,6 +122,9 @@ module _ (ks : List ℕ) {list : List Bytes} (P : All Octets list) {ds : List De
   performed-octets Val = value-octets (newest (parameter 1 list) ds) (newest-octets (parameter 1 list) D)
   performed-octets Update = update-octets ks (parameter 2 list) (all-getD [] empty P 2) (newest (parameter 1 list) ds)
   performed-octets (Arithmetic op) = result-octets (calculated op (parameter 1 list) (parameter 2 list))
+  performed-octets Seq = either Octets (same (parameter 1 list) (parameter 2 list)) (with (omega arith) empty) (with (omega arith) empty)
+  performed-octets Size = decimal-octets _ (shortest-bytes (pos (length (parameter 1 list))))
+  performed-octets If = all-chosen empty (all-drop 1 P)
 
   -- by what the name is found to be
   deed-of-octets : (f : Found) → FoundOctets f → DeedOctets (deedOf ks list ds f)

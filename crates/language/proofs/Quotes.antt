@@ -20,7 +20,7 @@ use Rattle.language.specs.Outcomes
 use Rattle.language.specs.Outcomes.{finishes}
 use Rattle.language.specs.Refusals.{isReserved, AcceptedTable}
 use Rattle.language.specs.declared.built_ins.BuiltIn.{BuiltIn}
-use Rattle.language.specs.declared.built_ins.BuiltIn.the-variants.{Def, Val, Update, Arithmetic}
+use Rattle.language.specs.declared.built_ins.BuiltIn.the-variants.{Def, Val, Update, Arithmetic, Seq, Size, If}
 use Rattle.language.specs.Definitions.{Content, macro, builtIn, Definition, Found, found, missing, same, newest, valued, altered, oldest, without, among, counts, live}
 use Rattle.language.specs.BuiltIns.{Deed, reads, defines, gives, alters, faulty, builtIns, needs, parameter, valueOf, updateOf, resultOf, performed, deedOf, deed}
 use Rattle.language.specs.Charge.{openPrice, endPrice}
@@ -29,7 +29,7 @@ use Rattle.language.specs.Scanning.{Call, Body, Standing, State, Step, n
 use Rattle.language.specs.Scanning as S
 use Rattle.language.specs.Matched.{depthBy, depthAfter, Matched, All, empty, with, Innermost, CallMatches, BodyMatches, ContentMatches, ValueMatches, depthWritten, QuotesMatch}
 use Rattle.language.proofs.Accepted.{digit-reserved, letter-reserved, accepted-plain}
-use Rattle.language.proofs.Lists.{either, all-append, all-take, all-drop, all-getD}
+use Rattle.language.proofs.Lists.{either, all-append, all-take, all-drop, all-getD, all-chosen}
 
 -- Every element ------------------------------------------------------------------------------------------------------
 
@@ -240,6 +240,9 @@ module _ (T : Table) where
       performed-matches Val = value-matches (newest (parameter 1 list) ds) (newest-matches (parameter 1 list) D)
       performed-matches Update = update-matches ks (parameter 2 list) (parameter-matches 2) (newest (parameter 1 list) ds)
       performed-matches (Arithmetic op) = result-matches op (operand (parameter 1 list)) (operand (parameter 2 list))
+      performed-matches Seq = either (Matched T) (same (parameter 1 list) (parameter 2 list)) (digit-matched 1 (omega arith)) (digit-matched 0 (omega arith))
+      performed-matches Size = digits-matched (length (parameter 1 list)) (length (parameter 1 list))
+      performed-matches If = all-chosen (matched-empty T) (all-drop 1 P)
 
       -- by what the name is found to be
       deed-of-matches : (f : Found) → FoundMatches f → DeedMatches (deedOf ks list ds f)

@@ -1,19 +1,20 @@
--- Document 01: the built-ins, what each needs, its checks in their order and its result.
+-- Document 01: the built-ins, what each needs, its checks in their order and its result. Document 02, Four: three more.
 use Prim.Native.Nat.{ℕ}
 use mathlib.Core.Bool.{cond}
 use mathlib.Core.List.{List, [], _∷_}
-use lib.ListN.{length, getD}
+use lib.ListN.{length, drop, getD}
 use lib.Dec.{ltb}
 use Rattle.decimal.specs.declared.operations.Operation.the-variants.{Sum, Difference, Product, Quotient, Remainder}
 use Rattle.decimal.specs.Arithmetic.{Result, number, refused, calculated}
-use Rattle.decimal.specs.Shortest.{shortest}
+use Rattle.decimal.specs.Shortest.{digits, shortest}
 use Rattle.language.specs.Signs.{Bytes, ascii}
 use Rattle.language.specs.Outcomes
 use Rattle.language.specs.declared.built_ins.BuiltIn.{BuiltIn}
-use Rattle.language.specs.declared.built_ins.BuiltIn.the-variants.{Def, Val, Update, Arithmetic}
-use Rattle.language.specs.Definitions.{macro, builtIn, Definition, Found, found, missing, newest, among}
+use Rattle.language.specs.declared.built_ins.BuiltIn.the-variants.{Def, Val, Update, Arithmetic, Seq, Size, If}
+use Rattle.language.specs.Definitions.{macro, builtIn, Definition, Found, found, missing, same, newest, among}
 
 -- "The built-in names are these fixed byte strings: `DEF`, `VAL`, `UPDATE`, `+`, `-`, `*`, `Quot`, `Rem`."
+-- Document 02: `SEQ`, `SIZE` and `IF` "are built-ins under every rule for built-ins".
 abbrev pub named : Bytes → BuiltIn → Definition
 named n b = record { name = n; content = builtIn b }
 
@@ -27,14 +28,21 @@ builtIns =
     named (ascii "*") (Arithmetic Product) ∷
     named (ascii "Quot") (Arithmetic Quotient) ∷
     named (ascii "Rem") (Arithmetic Remainder) ∷
+    named (ascii "SEQ") Seq ∷
+    named (ascii "SIZE") Size ∷
+    named (ascii "IF") If ∷
     []
 
--- "VAL needs one parameter, the others two. Surplus parameters are ignored."
+-- "VAL needs one parameter, the others two. Surplus parameters are ignored." Document 02: "SEQ and IF need two parameters, SIZE
+-- one, by outcome 13."
 abbrev pub needs : BuiltIn → ℕ
 needs Def = 2
 needs Val = 1
 needs Update = 2
 needs (Arithmetic op) = 2
+needs Seq = 2
+needs Size = 1
+needs If = 2
 
 -- parameter r of a call, 0 being its name
 abbrev pub parameter : ℕ → List Bytes → Bytes
@@ -66,12 +74,27 @@ abbrev pub resultOf : Result → Deed
 resultOf (number z) = gives (shortest z)
 resultOf (refused outcome) = faulty outcome
 
+-- Document 02: "`SEQ` gives 1 if its two parameters are the same bytes, else 0."
+abbrev pub compared : Bytes → Bytes → Bytes
+compared first second = cond (same first second) (ascii "1") (ascii "0")
+
+-- "`IF` takes its parameters in pairs from the left and gives the second of the first pair whose first is exactly `1`, or
+-- nothing; an unpaired last one is ignored."
+unfoldable pub chosen : List Bytes → Bytes
+chosen [] = []
+chosen (unpaired ∷ []) = []
+chosen (first ∷ second ∷ pairs) = let r = chosen pairs in cond (same first (ascii "1")) second r
+
 -- a built-in that has its parameters, where the definitions ds stand and the bodies `reading` are being read
 abbrev pub performed : List ℕ → List Bytes → List Definition → BuiltIn → Deed
 performed reading list ds Def = defines (parameter 1 list) (parameter 2 list)
 performed reading list ds Val = valueOf (newest (parameter 1 list) ds)
 performed reading list ds Update = updateOf reading (parameter 2 list) (newest (parameter 1 list) ds)
 performed reading list ds (Arithmetic op) = resultOf (calculated op (parameter 1 list) (parameter 2 list))
+performed reading list ds Seq = gives (compared (parameter 1 list) (parameter 2 list))
+-- "`SIZE` gives the length of its parameter in decimal."
+performed reading list ds Size = gives (digits (length (parameter 1 list)))
+performed reading list ds If = gives (chosen (drop 1 list))
 
 -- "Checks at `;`: .. 15, 13, then the built-in's": the call with this name and parameters
 abbrev pub deedOf : List ℕ → List Bytes → List Definition → Found → Deed

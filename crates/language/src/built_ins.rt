@@ -8,6 +8,9 @@ pub enum BuiltIn {
     Val,
     Update,
     Arithmetic(Operation),
+    Seq,
+    Size,
+    If,
 }
 
 impl BuiltIn {
@@ -20,6 +23,9 @@ impl BuiltIn {
             BuiltIn::Val => 1,
             BuiltIn::Update => 2,
             BuiltIn::Arithmetic(_) => 2,
+            BuiltIn::Seq => 2,
+            BuiltIn::Size => 1,
+            BuiltIn::If => 2,
         }
     }
 }

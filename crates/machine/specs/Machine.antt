@@ -9,15 +9,18 @@ use lib.ListN.{length, getD, set}
 use lib.Dec.{eqb, leb, ltb}
 use Rattle.memory.specs.Block.{moved, copied, lowBytes}
 use Rattle.language.specs.declared.built_ins.BuiltIn.{BuiltIn}
-use Rattle.language.specs.declared.built_ins.BuiltIn.the-variants.{Def, Val, Update, Arithmetic}
+use Rattle.language.specs.declared.built_ins.BuiltIn.the-variants.{Def, Val, Update, Arithmetic, Seq, Size, If}
 use Rattle.language.specs.Signs.{isLetter, cellsLimit}
 use Rattle.language.specs.Outcomes
 use Rattle.language.specs.BuiltIns.{needs}
 use Rattle.language.specs.Charge.{openPrice}
 use Rattle.language.specs.Expansion.{Lent, lent}
-use Rattle.machine.specs.Walks.{nowhere, mark, packed, high, low, cell, headSize, argumentsFrom, listOverhead, nameLength, room, valueLength, withValueLength, withHead, rightBefore, withRightBefore, listLink, returnLink, withLinks, argument, newest, definitions, isRead, builtInNamed, calculate}
+use Rattle.machine.specs.Walks.{nowhere, mark, packed, high, low, cell, headSize, argumentsFrom, listOverhead, nameLength, room, valueLength, withValueLength, withHead, rightBefore, withRightBefore, listLink, returnLink, withLinks, argument, newest, definitions, isRead, chosen, builtInNamed, compare, calculate}
 use Rattle.decimal.specs.declared.operations.Answer as Arithmetical
+use Rattle.decimal.specs.declared.shortest.Decimal.{Decimal}
 use Rattle.decimal.specs.Operand.{isDigit}
+use Rattle.decimal.specs.Shortest.{digits}
+use Rattle.decimal.specs.Answers.{decimalOf}
 use Rattle.machine.specs.declared.operands.Named.{Named}
 use Rattle.machine.specs.declared.operands.Named.the-variants.{Known, Unknown}
 use Rattle.machine.specs.declared.run.Calls.{Calls}
@@ -377,8 +380,8 @@ placing a m = cond (goesOn (a .answer)) (record { run = a .run; answer = a .answ
 abbrev pub giveBlock : Run → ℕ → ℕ → Lent → After
 giveBlock r from count m = placing (give r count m) (placeBlock r from count m)
 
-abbrev pub giveText : Run → List ℕ → ℕ → Lent → After
-giveText r bytes count m = placing (give r count m) (placeText r bytes count m)
+abbrev pub giveDecimal : Run → Decimal → Lent → After
+giveDecimal r t m = placing (give r (t .len) m) (placeText r (t .bytes) (t .len) m)
 
 -- "15, 19": a name that no definition has
 abbrev pub refuseNamed : Named → Run → Lent → After
@@ -420,17 +423,31 @@ update r name value m = updateOf r name value (newest (m .cells) (r .right) (r .
 -- the arithmetic
 abbrev pub giveAnswer : Run → Arithmetical.Answer → Lent → After
 giveAnswer r a m =
-    cond (eqb (a .outcome) Outcomes.finished) (giveText r (a .decimal .bytes) (a .decimal .len) m) (ends (a .outcome) r m)
+    cond (eqb (a .outcome) Outcomes.finished) (giveDecimal r (a .decimal) m) (ends (a .outcome) r m)
+
+-- a count: the results of SEQ and SIZE
+abbrev pub giveCount : Run → ℕ → Lent → After
+giveCount r count m = giveDecimal r (decimalOf (digits count)) m
+
+-- IF gives a parameter, or nothing
+abbrev pub chooseAt : Run → ℕ → ℕ → Lent → After
+chooseAt r name second m = cond (eqb second nowhere) (giveBlock r name 0 m) (giveBlock r (second + 1) (getD (m .cells) second 0) m)
+
+abbrev pub choose : Run → ℕ → Lent → After
+choose r name m = chooseAt r name (chosen (m .cells) name) m
 
 -- the built-in that has its parameters, the list of its call being at `name`: "Surplus parameters are ignored."
-abbrev pub performIn : Run → BuiltIn → ℕ → ℕ → Lent → After
-performIn r Def first second m = def r first second m
-performIn r Val first second m = val r first m
-performIn r Update first second m = update r first second m
-performIn r (Arithmetic op) first second m = giveAnswer r (calculate op (m .cells) first second) m
+abbrev pub performIn : Run → BuiltIn → ℕ → ℕ → ℕ → Lent → After
+performIn r Def name first second m = def r first second m
+performIn r Val name first second m = val r first m
+performIn r Update name first second m = update r first second m
+performIn r (Arithmetic op) name first second m = giveAnswer r (calculate op (m .cells) first second) m
+performIn r Seq name first second m = giveCount r (compare (m .cells) first second) m
+performIn r Size name first second m = giveCount r (getD (m .cells) first 0) m
+performIn r If name first second m = choose r name m
 
 abbrev pub perform : Run → BuiltIn → ℕ → Lent → After
-perform r b name m = performIn r b (argument (m .cells) name 1) (argument (m .cells) name 2) m
+perform r b name m = performIn r b name (argument (m .cells) name 1) (argument (m .cells) name 2) m
 
 -- 13: "a parameter .. needed by a built-in, was not supplied"
 abbrev pub supplied : Run → BuiltIn → ℕ → Lent → After

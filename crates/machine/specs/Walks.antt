@@ -12,6 +12,7 @@ use Rattle.decimal.specs.declared.operations.Answer.{Answer}
 use Rattle.decimal.specs.Operand.{operand}
 use Rattle.decimal.specs.Arithmetic.{ofOperands}
 use Rattle.decimal.specs.Answers.{answerOf}
+use Rattle.language.specs.Signs.{ascii}
 use Rattle.language.specs.Definitions.{Content, macro, builtIn, Definition}
 use Rattle.language.specs.BuiltIns.{builtIns}
 use Rattle.machine.specs.declared.operands.Named.{Named}
@@ -93,6 +94,21 @@ unfoldable pub argument : List ℕ → ℕ → ℕ → ℕ
 argument l p zero = cond (leb mark (getD l p 0)) nowhere p
 argument l p (suc k) = let r = argument l (p + (getD l p 0 + 1)) k in cond (leb mark (getD l p 0)) nowhere r
 
+-- whether the argument at a length cell is exactly `1`
+abbrev pub isOne : List ℕ → ℕ → Bool
+isOne l p = sameBytes (p + 1) (getD l p 0) (ascii "1") l
+
+unfoldable pub chosenFrom : ℕ → List ℕ → ℕ → ℕ
+chosenFrom zero l p = nowhere
+chosenFrom (suc t) l p =
+    let second = argument l p 2 in
+    let r = chosenFrom t l second in
+    cond (leb (length l) p) nowhere (cond (eqb second nowhere) nowhere (cond (isOne l (argument l p 1)) second r))
+
+-- IF: of the pairs behind the argument at a length cell the second of the first whose first is `1`, or nowhere
+abbrev pub chosen : List ℕ → ℕ → ℕ
+chosen l name = chosenFrom (length l) l name
+
 -- the cells of a definition at p
 abbrev pub size : List ℕ → ℕ → ℕ
 size l p = headSize + nameLength l p + room l p
@@ -135,7 +151,7 @@ isReadFrom (suc t) l list body definition =
 abbrev pub isRead : List ℕ → ℕ → ℕ → ℕ → Bool
 isRead l list body definition = isReadFrom (length l) l list body definition
 
--- The names of the built-ins and the arithmetic ---------------------------------------------------------------------
+-- The names of the built-ins, and what some come to ------------------------------------------------------------------
 
 abbrev pub namedAs : Content → Named
 namedAs (builtIn b) = Known b
@@ -150,6 +166,10 @@ namedAmong l name (d ∷ ds) =
 
 abbrev pub builtInNamed : List ℕ → ℕ → Named
 builtInNamed l name = namedAmong l name builtIns
+
+-- SEQ: 1 where two arguments are the same, their lengths and their bytes, else 0
+abbrev pub compare : List ℕ → ℕ → ℕ → ℕ
+compare l first second = cond (sameBlocks first second (getD l first 0 + 1) l) 1 0
 
 -- the operand in the argument at a length cell; none where the argument does not lie within the cells
 abbrev pub operandAt : List ℕ → ℕ → Option ℤ

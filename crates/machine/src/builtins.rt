@@ -16,7 +16,7 @@ ghost use Prim.Native.Nat.{ℕ, _+_, _≤_, _<_};
 ghost use lib.ListN.{length};
 ghost use Rattle.language.specs.Signs.{cellsLimit};
 ghost use Rattle.language.specs.Expansion.{lent};
-ghost use Rattle.machine.specs.Machine.{Marked, Resulting, leaves, release, releaseTo, released, defined, defineIn, def, refuseName, val, updateIn, update, perform, supplied, applyBuiltIn};
+ghost use Rattle.machine.specs.Machine.{Marked, Resulting, leaves, release, releaseTo, released, defined, defineIn, def, refuseName, val, updateIn, update, choose, perform, supplied, applyBuiltIn};
 
 impl Run {
     // 15 for a name that is none of theirs.
@@ -68,6 +68,9 @@ impl Run {
                 let answer = operands::calculate(operation, cells, first, second);
                 self.give_answer(answer, cells, output)
             }
+            BuiltIn::Seq => self.give_count(operands::compare(cells, first, second), cells, output),
+            BuiltIn::Size => self.give_count(memory::read(cells, first), cells, output),
+            BuiltIn::If => self.choose(name, cells, output),
         }
     }
 
@@ -228,5 +231,18 @@ impl Run {
         memory::move_block(cells, value + 1, to, count as usize);
         layout::write_value_length(cells, found, count);
         st
+    }
+
+    // IF gives a parameter, which lies in the list that goes; or nothing, a result of no bytes.
+    fn choose(self, name: usize, cells: &mut [u32], output: &mut [u8]) -> Stepped
+        requires { ⌜ (Marked (length (now cells)) self) × (self .counts .written ≤ length (now output)) × (name ≤ cellsLimit + 4) ⌝ }
+        ensures { λ r. ⌜ leaves r (lent (now (cells .exit)) (now (output .exit))) ≡ choose self name (lent (now (cells .entry)) (now (output .entry))) ⌝ }
+    {
+        let second = lookup::chosen(cells, name);
+        if second == Run::NOWHERE {
+            return self.give_block(name, 0, cells, output);
+        }
+        let count = memory::read(cells, second) as usize;
+        self.give_block(second + 1, count, cells, output)
     }
 }

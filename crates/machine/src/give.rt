@@ -4,6 +4,7 @@ use crate::run::Answer;
 use crate::run::Run;
 use crate::run::Stepped;
 use decimal::operations;
+use decimal::shortest::Decimal;
 use language::outcomes;
 ghost use mathlib.Core.Path.{_≡_};
 ghost use mathlib.Core.List.{List};
@@ -11,7 +12,7 @@ ghost use Prim.Native.Nat.{ℕ, _≤_};
 ghost use lib.ListN.{length};
 ghost use Rattle.language.specs.Expansion.{lent};
 ghost use Rattle.machine.specs.Walks.{nowhere};
-ghost use Rattle.machine.specs.Machine.{Marked, leaves, isOuter, giveIn, giveOut, give, placeBlock, placeText, giveBlock, giveText, giveAnswer};
+ghost use Rattle.machine.specs.Machine.{Marked, leaves, isOuter, giveIn, giveOut, give, placeBlock, placeText, giveBlock, giveDecimal, giveCount, giveAnswer};
 
 impl Run {
     // The result of the arithmetic, or its refusal.
@@ -28,29 +29,30 @@ impl Run {
         if outcome != outcomes::FINISHED {
             return self.ends_with(outcome);
         }
-        let text = answer.decimal;
-        let bytes = text.bytes;
-        let count = text.len;
-        self.give_text(&bytes, count, cells, output)
+        self.give_decimal(answer.decimal, cells, output)
     }
 
-    // A result that stands in a text.
-    fn give_text(
-        self,
-        bytes: &[u8; 11],
-        count: usize,
-        cells: &mut [u32],
-        output: &mut [u8],
-    ) -> Stepped
+    // A count, in decimal.
+    pub(crate) fn give_count(self, count: u32, cells: &mut [u32], output: &mut [u8]) -> Stepped
         requires { ⌜ (Marked (length (now cells)) self) × (self .counts .written ≤ length (now output)) ⌝ }
-        ensures { λ r. ⌜ leaves r (lent (now (cells .exit)) (now (output .exit))) ≡ giveText self (now (bytes .entry)) count (lent (now (cells .entry)) (now (output .entry))) ⌝ }
+        ensures { λ r. ⌜ leaves r (lent (now (cells .exit)) (now (output .exit))) ≡ giveCount self count (lent (now (cells .entry)) (now (output .entry))) ⌝ }
     {
+        self.give_decimal(Decimal::of_count(count), cells, output)
+    }
+
+    // A result that is a decimal.
+    fn give_decimal(self, text: Decimal, cells: &mut [u32], output: &mut [u8]) -> Stepped
+        requires { ⌜ (Marked (length (now cells)) self) × (self .counts .written ≤ length (now output)) ⌝ }
+        ensures { λ r. ⌜ leaves r (lent (now (cells .exit)) (now (output .exit))) ≡ giveDecimal self text (lent (now (cells .entry)) (now (output .entry))) ⌝ }
+    {
+        let bytes = text.bytes;
+        let count = text.len;
         let st = self.give(count, cells, output.len());
         let answer = st.answer;
         let Answer::GoesOn = answer else {
             return st;
         };
-        self.place_text(bytes, count, cells, output);
+        self.place_text(&bytes, count, cells, output);
         st
     }
 

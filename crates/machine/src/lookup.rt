@@ -5,7 +5,7 @@ ghost use mathlib.Core.Path.{_≡_};
 ghost use Prim.Native.Nat.{_+_, _≤_};
 ghost use lib.ListN.{length};
 ghost use Rattle.language.specs.Signs.{cellsLimit};
-ghost use Rattle.machine.specs.Walks.{nowhere, argument, size, isNamed, nextPosition, nextList, newest, definitions, isRead};
+ghost use Rattle.machine.specs.Walks.{nowhere, argument, isOne, chosen, size, isNamed, nextPosition, nextList, newest, definitions, isRead};
 
 // The length cell of an argument of a list, counted from the one at `from`.
 pub(crate) fn argument(cells: &[u32], from: usize, index: usize) -> usize
@@ -26,6 +26,39 @@ pub(crate) fn argument(cells: &[u32], from: usize, index: usize) -> usize
         return Run::NOWHERE;
     }
     position
+}
+
+// The length cell of what IF gives, the list of its call being at `name`: the second of the first pair whose first is `1`.
+pub(crate) fn chosen(cells: &[u32], name: usize) -> usize
+    requires { ⌜ (length (now cells) ≤ cellsLimit) × (name ≤ cellsLimit + 4) ⌝ }
+    ensures { λ r. ⌜ (r ≡ chosen (now (cells .entry)) name) × (r ≤ 8589934592) ⌝ }
+{
+    let mut turns = cells.len();
+    let mut position = name;
+    while turns > 0 {
+        if position >= cells.len() {
+            return Run::NOWHERE;
+        }
+        let second = argument(cells, position, 2);
+        if second == Run::NOWHERE {
+            return Run::NOWHERE;
+        }
+        if is_one(cells, argument(cells, position, 1)) {
+            return second;
+        }
+        position = second;
+        turns -= 1;
+    }
+    Run::NOWHERE
+}
+
+// Whether the argument at a length cell is exactly `1`.
+fn is_one(cells: &[u32], argument: usize) -> bool
+    requires { ⌜ argument ≤ 8589934592 ⌝ }
+    ensures { λ r. ⌜ r ≡ isOne (now (cells .entry)) argument ⌝ }
+{
+    let count = memory::read(cells, argument) as usize;
+    memory::same_bytes(cells, argument + 1, count, b"1")
 }
 
 // Where a walk over the right stack is: at an item, with the next list from there on.

@@ -1,4 +1,4 @@
-// The names of the built-ins and the arithmetic.
+// The names of the built-ins, and what some come to on their arguments.
 use decimal::operations::Answer;
 use decimal::operations::Operation;
 use decimal::reader::Operand;
@@ -10,7 +10,7 @@ ghost use lib.ListN.{drop};
 ghost use Rattle.decimal.specs.Arithmetic.{asResult};
 ghost use Rattle.decimal.specs.Answers.{resultIn};
 ghost use Rattle.language.specs.BuiltIns.{builtIns};
-ghost use Rattle.machine.specs.Walks.{builtInNamed, namedAmong, operandAt, calculate};
+ghost use Rattle.machine.specs.Walks.{builtInNamed, namedAmong, compare, operandAt, calculate};
 
 // The built-in that has a name, or that none has it.
 pub enum Named {
@@ -57,7 +57,34 @@ fn arithmetic(cells: &[u32], name: usize) -> Named
     if memory::same_bytes(cells, name + 1, count, b"Rem") {
         return Named::Known(BuiltIn::Arithmetic(Operation::Remainder));
     }
+    word(cells, name)
+}
+
+// Which of the words from M6.
+fn word(cells: &[u32], name: usize) -> Named
+    requires { ⌜ name ≤ 8589934592 ⌝ }
+    ensures { λ r. ⌜ r ≡ namedAmong (now (cells .entry)) name (drop 8 builtIns) ⌝ }
+{
+    let count = memory::read(cells, name) as usize;
+    if memory::same_bytes(cells, name + 1, count, b"SEQ") {
+        return Named::Known(BuiltIn::Seq);
+    }
+    if memory::same_bytes(cells, name + 1, count, b"SIZE") {
+        return Named::Known(BuiltIn::Size);
+    }
+    if memory::same_bytes(cells, name + 1, count, b"IF") {
+        return Named::Known(BuiltIn::If);
+    }
     Named::Unknown
+}
+
+// SEQ: 1 where two arguments are the same, their lengths and their bytes, else 0.
+pub(crate) fn compare(cells: &[u32], first: usize, second: usize) -> u32
+    requires { ⌜ (first ≤ 8589934592) × (second ≤ 8589934592) ⌝ }
+    ensures { λ r. ⌜ r ≡ compare (now (cells .entry)) first second ⌝ }
+{
+    let count = memory::read(cells, first) as usize;
+    if memory::same_blocks(cells, first, second, count + 1) { 1 } else { 0 }
 }
 
 // The operation of a built-in on two arguments.

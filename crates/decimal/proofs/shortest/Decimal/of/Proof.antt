@@ -26,18 +26,14 @@ returns c =
     c .with-digits .ensures (45 ∷ []) (c .before .with .ensures [] (c .before .before .new .ensures) (omega arith)) (omega (arith, digits-room (m .result) (m .ok)))
     ∙ ap decimalOf (minus-digits (c .before .before .before .before .before .fits .value) (c .before .before .before .if1 .taken) (m .ensures))
 
-new-requires-2 : tie.Need-new-requires-2
-new-requires-2 c κs = search needs
-
-with-digits-requires-2 : tie.Need-with-digits-requires-2
-with-digits-requires-2 c κs = search needs
+of-count-requires : tie.Need-of-count-requires
+of-count-requires c κs = search needs
 
 returns-2 : tie.Need-returns-2
 returns-2 c =
-    let m = c .before .before .before .magnitude in
-    c .with-digits2 .ensures [] (c .before .new2 .ensures) (omega (arith, digits-room (m .result) (m .ok)))
-    ∙ ap decimalOf (plain-digits (c .before .before .before .before .fits .value) (c .before .before .if1 .left) (m .ensures))
+    c .of-count .ensures
+    ∙ ap decimalOf (plain-digits (c .before .before .before .fits .value) (c .before .if1 .left) (c .before .before .magnitude .ensures))
 
 pub of-spec : {M : Type 1} → statement M
 of-spec =
-    tie.close (tie.spec magnitude-requires new-requires with-requires with-digits-requires returns new-requires-2 with-digits-requires-2 returns-2)
+    tie.close (tie.spec magnitude-requires new-requires with-requires with-digits-requires returns of-count-requires returns-2)
