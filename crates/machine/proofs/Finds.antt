@@ -53,13 +53,13 @@ pub record ArgumentAt (l : List ℕ) (p : ℕ) (args : List Bytes) (k q : ℕ) :
   pub within : q + 1 + length (getD args k []) ≤ p + argumentsPrice args
 
 -- the first of some arguments: its length, its bytes, and what stands behind them
-record First (l : List ℕ) (p : ℕ) (a : Bytes) (more : List ℕ) : Type 0 where
-  counted : getD l p 0 ≡ length a
-  bytes : drop (p + 1) l ≡ a ++ more
-  behind : drop (p + (length a + 1)) l ≡ more
+pub record First (l : List ℕ) (p : ℕ) (a : Bytes) (more : List ℕ) : Type 0 where
+  pub counted : getD l p 0 ≡ length a
+  pub bytes : drop (p + 1) l ≡ a ++ more
+  pub behind : drop (p + (length a + 1)) l ≡ more
 
 -- some arguments begin so
-first-of : (l : List ℕ) (p : ℕ) (a : Bytes) (args : List Bytes) (rest : List ℕ) → drop p l ≡ encodeArguments (a ∷ args) ++ rest
+pub first-of : (l : List ℕ) (p : ℕ) (a : Bytes) (args : List Bytes) (rest : List ℕ) → drop p l ≡ encodeArguments (a ∷ args) ++ rest
     → First l p a (encodeArguments args ++ rest)
 unfolding encodeArguments
 first-of l p a args rest e =

@@ -9,19 +9,20 @@ use lib.Dec.{eqb, leb, ltb}
 use borrow.Author.Needs.{needs}
 use borrow.Author.Tests.{ltb-false, leb-false, eqb-false}
 use Rattle.language.specs.declared.built_ins.BuiltIn.{BuiltIn}
-use Rattle.language.specs.declared.built_ins.BuiltIn.the-variants.{Def, Val, Update, Arithmetic}
+use Rattle.language.specs.declared.built_ins.BuiltIn.the-variants.{Def, Val, Update, Arithmetic, Seq, Size, If}
 use Rattle.language.specs.Signs.{cellsLimit}
 use Rattle.language.specs.Outcomes
 use Rattle.language.specs.BuiltIns as B
 use Rattle.language.specs.Charge.{openPrice}
 use Rattle.language.specs.Expansion.{Lent}
 use Rattle.decimal.specs.declared.operations.Answer as Arithmetical
+use Rattle.decimal.specs.Shortest.{digits}
 use Rattle.machine.specs.declared.operands.Named.{Named}
 use Rattle.machine.specs.declared.operands.Named.the-variants.{Known, Unknown}
 use Rattle.machine.specs.declared.run.Run.{Run}
 use Rattle.machine.specs.declared.run.Answer.{Answer}
 use Rattle.machine.specs.declared.run.Answer.the-variants.{GoesOn, Ended, Damaged, Refused}
-use Rattle.machine.specs.Walks.{nowhere, mark, cell, headSize, argumentsFrom, listOverhead, valueLength, room, rightBefore, listLink, returnLink, high, argument, newest, definitions, isRead, builtInNamed, calculate}
+use Rattle.machine.specs.Walks.{nowhere, mark, cell, headSize, argumentsFrom, listOverhead, valueLength, room, rightBefore, listLink, returnLink, high, argument, chosen, newest, definitions, isRead, builtInNamed, compare, calculate}
 use Rattle.machine.specs.Machine as M
 use Rattle.machine.specs.Machine.{After, Sound, Ready, InRange, Resulting, Marked}
 use Rattle.machine.proofs.Bodies.{inside}
@@ -209,6 +210,14 @@ module _ (m : Lent) where
       answerKept : (a : Arithmetical.Answer) → Kept n k (r .counts .scans) (M.giveAnswer r a m)
       answerKept a = choose (eqb (a .outcome) Outcomes.finished) (λ t. placingKept _ _ (giveKept (a .decimal .len))) (λ t. ends)
 
+      countKept : (count : ℕ) → Kept n k (r .counts .scans) (M.giveCount r count m)
+      countKept count = placingKept _ _ (giveKept (length (digits count)))
+
+      chooseKept : (name : ℕ) → Kept n k (r .counts .scans) (M.choose r name m)
+      chooseKept name =
+          let second = chosen l name in
+          choose (eqb second nowhere) (λ t. placingKept _ _ (giveKept 0)) (λ t. placingKept _ _ (giveKept (getD l second 0)))
+
       performKept : (b : BuiltIn) (name : ℕ) → Kept n k (r .counts .scans) (M.perform r b name m)
       performKept Def name =
           let first = argument l name 1 in
@@ -218,6 +227,9 @@ module _ (m : Lent) where
       performKept Val name = valKept (argument l name 1)
       performKept Update name = updateKept (argument l name 1) (argument l name 2)
       performKept (Arithmetic op) name = answerKept (calculate op l (argument l name 1) (argument l name 2))
+      performKept Seq name = countKept (compare l (argument l name 1) (argument l name 2))
+      performKept Size name = countKept (getD l (argument l name 1) 0)
+      performKept If name = chooseKept name
 
       builtInKept : (name : ℕ) → Kept n k (r .counts .scans) (M.applyBuiltIn r name m)
       builtInKept name = go (builtInNamed l name)

@@ -13,14 +13,14 @@ use denote.Enum.Declared.{tagOf}
 use Rattle.decimal.specs.declared.operations.Operation.{Operation}
 use Rattle.decimal.specs.declared.operations.Answer as Arithmetical
 use Rattle.language.specs.declared.built_ins.BuiltIn.{BuiltIn}
-use Rattle.language.specs.declared.built_ins.BuiltIn.the-variants.{Def, Val, Update, Arithmetic}
+use Rattle.language.specs.declared.built_ins.BuiltIn.the-variants.{Def, Val, Update, Arithmetic, Seq, Size, If}
 use Rattle.language.specs.BuiltIns.{needs}
 use Rattle.language.specs.Expansion.{Lent}
 use Rattle.machine.specs.declared.run.Run.{Run}
 use Rattle.machine.specs.declared.run.Answer.{Answer}
 use Rattle.machine.specs.declared.run.Answer.the-variants.{GoesOn, Ended, Damaged, Refused}
-use Rattle.machine.specs.Walks.{nowhere, headSize, nameLength, valueLength, isNamed, nextPosition, nextList, newestFrom, newest, argument, calculate}
-use Rattle.machine.specs.Machine.{After, Resulting, goes, damaged, goesOn, placing, released, releaseTo, release, defineIn, def, giveBlock, refuseName, val, giveAnswer, perform}
+use Rattle.machine.specs.Walks.{nowhere, headSize, nameLength, valueLength, isNamed, nextPosition, nextList, newestFrom, newest, argument, chosen, compare, calculate}
+use Rattle.machine.specs.Machine.{After, Resulting, goes, damaged, goesOn, placing, released, releaseTo, release, defineIn, def, giveBlock, refuseName, val, giveAnswer, giveCount, choose, perform}
 use Rattle.machine.proofs.run.Answer.{the-type}
 
 -- an answer of another kind does not go on
@@ -64,12 +64,35 @@ pub calculates : (r : Run) (name : ℕ) (m : Lent) {a : After} {b : BuiltIn} {op
     → first ≡ argument (m .cells) name 1 → second ≡ argument (m .cells) name 2 → x ≡ calculate op (m .cells) first second → a ≡ giveAnswer r x m → a ≡ perform r b name m
 calculates r name m e f s c g = g ∙ rw (e, c, f, s)
 
+-- SEQ gives what its arguments compare to
+pub compares : (r : Run) (name : ℕ) (m : Lent) {a : After} {b : BuiltIn} {first second x : ℕ} → b ≡ Seq
+    → first ≡ argument (m .cells) name 1 → second ≡ argument (m .cells) name 2 → x ≡ compare (m .cells) first second → a ≡ giveCount r x m → a ≡ perform r b name m
+compares r name m e f s c g = g ∙ rw (e, c, f, s)
+
+-- SIZE gives the length of its argument
+pub measures : (r : Run) (name : ℕ) (m : Lent) {a : After} {b : BuiltIn} {first x : ℕ} → b ≡ Size
+    → first ≡ argument (m .cells) name 1 → x ≡ getD (m .cells) first 0 → a ≡ giveCount r x m → a ≡ perform r b name m
+measures r name m e f c g = g ∙ rw (e, c, f)
+
+-- IF gives the argument that it chose
+pub chose : (r : Run) (name : ℕ) (m : Lent) {a : After} {q count : ℕ} → q ≡ chosen (m .cells) name → (q ≡ nowhere → ⊥)
+    → count ≡ getD (m .cells) q 0 → a ≡ giveBlock r (q + 1) count m → a ≡ choose r name m
+chose r name m e h n g = g ∙ rw (n, ← e, ne-eqb _ _ h)
+
+-- and nothing where it chose none
+pub chose-nothing : (r : Run) (name : ℕ) (m : Lent) {a : After} {q : ℕ} → q ≡ chosen (m .cells) name → q ≡ nowhere
+    → a ≡ giveBlock r name 0 m → a ≡ choose r name m
+chose-nothing r name m e h g = g ∙ rw (← e, eq-eqb _ _ h)
+
 -- a built-in needs few parameters
 pub few : (b : BuiltIn) → needs b ≤ 2
 few Def = omega arith
 few Val = omega arith
 few Update = omega arith
 few (Arithmetic op) = omega arith
+few Seq = omega arith
+few Size = omega arith
+few If = omega arith
 
 -- a standing in which a definition can be put
 pub record Roomy (r : Run) : Type 0 where

@@ -16,6 +16,7 @@ pub mod Ending
 pub mod Fetching
 pub mod Altering
 pub mod Naming
+pub mod Words
 pub mod Applying
 pub mod Calling
 pub mod Defining

@@ -18,7 +18,6 @@ use Rattle.decimal.specs.Shortest.{shortest}
 use Rattle.decimal.specs.Arithmetic.{Result, number, refused, divides, isZero, exact, ofOperands, calculated}
 use Rattle.decimal.specs.Answers.{answerOf}
 use Rattle.decimal.proofs.Laws.{result-in-range, at-most-eleven}
-use Rattle.decimal.proofs.Texts.{filled-text, filled-length}
 use Rattle.language.specs.declared.built_ins.BuiltIn.{BuiltIn}
 use Rattle.language.specs.Signs.{Bytes}
 use Rattle.language.specs.Outcomes
@@ -50,14 +49,6 @@ pub data Own : Found → Type 0 where
   unknown : Own missing
   known : (k : ℕ) (b : BuiltIn) → Own (found k (builtIn b))
 
--- an answer that holds a text
-pub record Holding (a : Answer) (t : Bytes) : Type 0 where
-  pub outcome : a .outcome ≡ Outcomes.finished
-  pub counted : a .decimal .len ≡ length t
-  pub short : length t ≤ 11
-  pub bytes : block 0 (length t) (a .decimal .bytes) ≡ t
-  pub size : length (a .decimal .bytes) ≡ 11
-
 -- an answer that refuses with an outcome
 pub record Refusing (a : Answer) (k : ℕ) : Type 0 where
   pub outcome : a .outcome ≡ k
@@ -66,7 +57,7 @@ pub record Refusing (a : Answer) (k : ℕ) : Type 0 where
 -- Names --------------------------------------------------------------------------------------------------------------
 
 -- the two tests of strings are one
-same-is : (a b : Bytes) → same a b ≡ D.same a b
+pub same-is : (a b : Bytes) → same a b ≡ D.same a b
 unfolding same D.same
 same-is [] [] = refl
 same-is [] (y ∷ b) = refl
@@ -131,11 +122,9 @@ pub calculate-is : (op : Operation) {l : List ℕ} {first second : ℕ} {t₁ t�
     → calculate op l first second ≡ answerOf (calculated op t₁ t₂)
 calculate-is op h₁ o₁ h₂ o₂ = rw (operandAt-is h₁ o₁, operandAt-is h₂ o₂)
 
--- a number is answered by its shortest decimal
-pub answer-number : (op : Operation) (t₁ t₂ : Bytes) {z : ℤ} → calculated op t₁ t₂ ≡ number z → Holding (answerOf (number z)) (shortest z)
-answer-number op t₁ t₂ {z} e =
-    let s = at-most-eleven z (result-in-range op t₁ t₂ z e) in
-    record { outcome = refl; counted = refl; short = s; bytes = filled-text 11 (shortest z) s; size = filled-length 11 (shortest z) }
+-- a number is answered by its shortest decimal, which has at most eleven bytes
+pub answer-number : (op : Operation) (t₁ t₂ : Bytes) {z : ℤ} → calculated op t₁ t₂ ≡ number z → length (shortest z) ≤ 11
+answer-number op t₁ t₂ {z} e = at-most-eleven z (result-in-range op t₁ t₂ z e)
 
 -- a refusal is answered by its outcome, which is not that of a run that finishes
 pub answer-refused : (op : Operation) (t₁ t₂ : Bytes) {k : ℕ} → calculated op t₁ t₂ ≡ refused k → Refusing (answerOf (refused k)) k

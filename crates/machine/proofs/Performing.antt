@@ -10,26 +10,29 @@ use lib.Dec.{eqb, ltb}
 use borrow.Author.Tests.{ne-eqb, ltb-true, ltb-false}
 use Rattle.decimal.specs.declared.operations.Operation.{Operation}
 use Rattle.decimal.specs.Arithmetic.{Result, number, refused, calculated}
-use Rattle.decimal.specs.Shortest.{shortest}
-use Rattle.decimal.specs.Answers.{answerOf}
+use Rattle.decimal.specs.Shortest.{digitsOf, digits, shortest}
+use Rattle.decimal.specs.Answers.{answerOf, filled, decimalOf}
+use Rattle.decimal.proofs.Texts.{digits-room, filled-text, filled-length}
 use Rattle.language.specs.Outcomes
-use Rattle.language.specs.Signs.{Bytes}
+use Rattle.language.specs.Signs.{Bytes, ascii}
 use Rattle.language.specs.declared.built_ins.BuiltIn.{BuiltIn}
-use Rattle.language.specs.declared.built_ins.BuiltIn.the-variants.{Def, Val, Update, Arithmetic}
+use Rattle.language.specs.declared.built_ins.BuiltIn.the-variants.{Def, Val, Update, Arithmetic, Seq, Size, If}
 use Rattle.language.specs.Definitions.{macro, builtIn, Definition, Found, found, missing, altered, oldest, among}
 use Rattle.language.specs.Definitions as D
-use Rattle.language.specs.BuiltIns.{builtIns, Deed, reads, alters, faulty, deed, deedOf, performed, valueOf, updateOf, resultOf, parameter, needs}
+use Rattle.language.specs.BuiltIns.{builtIns, Deed, reads, gives, alters, faulty, deed, deedOf, performed, valueOf, updateOf, resultOf, compared, parameter, needs}
+use Rattle.language.specs.BuiltIns as B
 use Rattle.language.specs.Charge.{argumentsPrice}
 use Rattle.language.specs.Matched.{All, empty, with}
 use Rattle.language.specs.Scanning.{State, next, Call, Body}
 use Rattle.language.specs.Scanning as S
 use Rattle.language.specs.Expansion.{limitsOf, lent}
 use Rattle.language.specs.Octets.{Octets, CallOctets, ContentOctets, HoldsOctets, DefinitionOctets}
+use Rattle.language.proofs.Lists.{all-drop, all-chosen}
 use Rattle.language.proofs.Demand.{builtIns-free}
-use Rattle.memory.specs.Block.{placed, moved, copied, lowBytes}
+use Rattle.memory.specs.Block.{block, placed, moved, copied, lowBytes}
 use Rattle.memory.proofs.Blocks.{moved-in, copied-in, length-lowBytes}
 use Rattle.machine.specs.declared.run.Run.{Run}
-use Rattle.machine.specs.Walks.{nowhere, headSize, nameLength, argument, newest, isRead, calculate, room, withValueLength}
+use Rattle.machine.specs.Walks.{nowhere, headSize, nameLength, argument, chosen, newest, isRead, compare, calculate, room, withValueLength}
 use Rattle.machine.specs.Machine as M
 use Rattle.machine.proofs.Items.{encode-append, width-append}
 use Rattle.machine.proofs.Moves.{madeAll, madeLaid, madeBodies, madeValid}
@@ -38,6 +41,7 @@ use Rattle.machine.proofs.Finds.{HoldsItems, Defines, DefinitionAt, def
 use Rattle.machine.proofs.Fetching.{block-low, each}
 use Rattle.machine.proofs.Altering.{alter, alterItems, alter-append, alter-width, alter-count, alterLaid, alterLefts, alterCalls, alterBodies, alterValid, Spot, spotOf, stored, alterDefinitions, alterSize, alterHigh, alterLow}
 use Rattle.machine.proofs.Naming.{TextAt, namedOf, Own, unknown, known, builtIns-only, builtInNamed-is, calculate-is, answer-number, answer-refused}
+use Rattle.machine.proofs.Words.{compare-is, Picked, nothing, picked, chosen-at}
 use Rattle.machine.proofs.Applying.{Applied, listOf}
 use Rattle.machine.proofs.Calling.{argumentsAt, linksIs, rightTo, toAbove, freed, releaseIs, oldest-items, begun, movedIs}
 use Rattle.machine.proofs.Giving.{refused as refusing, giveSim}
@@ -156,6 +160,27 @@ module _ {n : ℕ} {whole start : List ℕ} {r : Run} {l o : List ℕ} {s : Stat
       → Simulates n builtIns whole start (M.readBody r d (lent l o)) (S.perform (limitsOf n (length start)) (reads k v) c cs s)
   readSim d k room v D = rw (linksIs a, movedIs a d k v (D .at)) (goes refl (begun a d k v (D .at) named))
 
+  -- Results ----------------------------------------------------------------------------------------------------------
+
+  -- a block of cells gives the bytes that stand in it, also where these lie in the list that goes
+  blockSim : (from : ℕ) (v : Bytes) → from + length v ≤ n → block from (length v) l ≡ v → Octets v
+      → Simulates n builtIns whole start (M.giveBlock r from (length v) (lent l o)) (S.perform (limitsOf n (length start)) (gives v) c cs s)
+  blockSim from v fit is vo =
+      giveSim builtIns-free a v (moved from (r .calls .call) (length v) l) (copied from (r .counts .written) (length v) (lowBytes l) o)
+      (λ e. moved-in from (r .calls .call) (length v) l (omega (arith, a .lies .stands .size)) (omega (arith, a .lies .stands .size, a .inUse, a .leftIs, a .room, a .lies .stands .right)) ∙ ap (λ (y : List ℕ). placed (r .calls .call) y l) is)
+      (λ e. copied-in from (r .counts .written) (length v) (lowBytes l) o (omega (arith, a .lies .stands .size, length-lowBytes l)) (omega (arith, outputSize (a .lies), a .lies .wrote .written)) ∙ ap (λ (y : List ℕ). placed (r .counts .written) y o) (block-low from v l is vo))
+
+  -- a decimal gives the text that it holds
+  decimalSim : (bs : Bytes) → length bs ≤ 11
+      → Simulates n builtIns whole start (M.giveDecimal r (decimalOf bs) (lent l o)) (S.perform (limitsOf n (length start)) (gives bs) c cs s)
+  decimalSim bs short =
+      let bytes = filled 11 bs in
+      let size = filled-length 11 bs in
+      let is = filled-text 11 bs short in
+      giveSim builtIns-free a bs (copied 0 (r .calls .call) (length bs) bytes l) (copied 0 (r .counts .written) (length bs) bytes o)
+      (λ q. copied-in 0 (r .calls .call) (length bs) bytes l (omega arith) (omega (arith, a .lies .stands .size, a .inUse, a .leftIs, a .room, a .lies .stands .right)) ∙ ap (λ (y : List ℕ). placed (r .calls .call) y l) is)
+      (λ q. copied-in 0 (r .counts .written) (length bs) bytes o (omega arith) (omega (arith, outputSize (a .lies), a .lies .wrote .written)) ∙ ap (λ (y : List ℕ). placed (r .counts .written) y o) is)
+
   -- VAL --------------------------------------------------------------------------------------------------------------
 
   -- "15, 19": a name that no definition has
@@ -190,9 +215,7 @@ module _ {n : ℕ} {whole start : List ℕ} {r : Run} {l o : List ℕ} {s : Stat
           let vo : Octets v = valueOctets t (s .standing .definitions) k m (oct .definitions) g in
           let fit : from + length v ≤ n = omega (arith, at .within, at .cells .fits) in
           rw (ne-eqb d nowhere (λ (e : d ≡ nowhere). absurd (omega (arith, at .below))), g, at .cells .named, at .cells .valued)
-          (giveSim builtIns-free a v (moved from (r .calls .call) (length v) l) (copied from (r .counts .written) (length v) (lowBytes l) o)
-          (λ e. moved-in from (r .calls .call) (length v) l (omega (arith, a .lies .stands .size)) (omega (arith, a .lies .stands .size, a .inUse, a .leftIs, a .room, a .lies .stands .right)) ∙ ap (λ (y : List ℕ). placed (r .calls .call) y l) (at .cells .valueIs))
-          (λ e. copied-in from (r .counts .written) (length v) (lowBytes l) o (omega (arith, a .lies .stands .size, length-lowBytes l)) (omega (arith, outputSize (a .lies), a .lies .wrote .written)) ∙ ap (λ (y : List ℕ). placed (r .counts .written) y o) (block-low from v l (at .cells .valueIs) vo)))
+          (blockSim from v fit (at .cells .valueIs) vo)
 
   -- UPDATE -----------------------------------------------------------------------------------------------------------
 
@@ -334,12 +357,44 @@ module _ {n : ℕ} {whole start : List ℕ} {r : Run} {l o : List ℕ} {s : Stat
           → Simulates n builtIns whole start (M.giveAnswer r (answerOf R) (lent l o)) (S.perform (limitsOf n (length start)) (resultOf R) c cs s)
       go (refused k) e = let x = answer-refused op (parameter 1 list) (parameter 2 list) e in rw (x .fails) (refusing builtIns-free a k)
       go (number z) e =
-          let x = answer-number op (parameter 1 list) (parameter 2 list) e in
-          let bs = shortest z in
-          let bytes = (answerOf (number z)) .decimal .bytes in
-          giveSim builtIns-free a bs (copied 0 (r .calls .call) (length bs) bytes l) (copied 0 (r .counts .written) (length bs) bytes o)
-          (λ q. copied-in 0 (r .calls .call) (length bs) bytes l (omega (arith, x .short, x .size)) (omega (arith, a .lies .stands .size, a .inUse, a .leftIs, a .room, a .lies .stands .right)) ∙ ap (λ (y : List ℕ). placed (r .calls .call) y l) (x .bytes))
-          (λ q. copied-in 0 (r .counts .written) (length bs) bytes o (omega (arith, x .short, x .size)) (omega (arith, outputSize (a .lies), a .lies .wrote .written)) ∙ ap (λ (y : List ℕ). placed (r .counts .written) y o) (x .bytes))
+          decimalSim (shortest z) (answer-number op (parameter 1 list) (parameter 2 list) e)
+
+  -- SEQ, SIZE and IF -------------------------------------------------------------------------------------------------
+
+  seqSim : (long : 2 < length list)
+      → Simulates n builtIns whole start
+      (M.giveCount r (compare l (argument l name 1) (argument l name 2)) (lent l o))
+      (S.perform (limitsOf n (length start)) (gives (compared (parameter 1 list) (parameter 2 list))) c cs s)
+  unfolding digitsOf
+  seqSim long = rw (compare-is (textIs 1 (omega arith)) (textIs 2 long)) (go (D.same (parameter 1 list) (parameter 2 list)))
+    where
+      go : (z : Bool) → Simulates n builtIns whole start (M.giveCount r (cond z 1 0) (lent l o)) (S.perform (limitsOf n (length start)) (gives (cond z (ascii "1") (ascii "0"))) c cs s)
+      go true = decimalSim (ascii "1") (omega arith)
+      go false = decimalSim (ascii "0") (omega arith)
+
+  sizeSim : (long : 1 < length list)
+      → Simulates n builtIns whole start
+      (M.giveCount r (getD l (argument l name 1) 0) (lent l o))
+      (S.perform (limitsOf n (length start)) (gives (digits (length (parameter 1 list)))) c cs s)
+  sizeSim long =
+      let x = textIs 1 long in
+      let small : length (parameter 1 list) ≤ 65536 = omega (arith, x .within, a .lies .stands .size, a .cellsLent) in
+      rw (x .counted) (decimalSim (digits (length (parameter 1 list))) (omega (arith, digits-room (length (parameter 1 list)) (omega arith))))
+
+  ifSim : Simulates n builtIns whole start (M.choose r name (lent l o)) (S.perform (limitsOf n (length start)) (gives (B.chosen (drop 1 list))) c cs s)
+  ifSim = go (B.chosen (drop 1 list)) (chosen l name)
+      (chosen-at (length l) l name list (drop (r .calls .left + 1) l) (argumentsAt a)
+      (omega (arith, a .leftIs, a .room, a .lies .stands .right, a .lies .stands .size))
+      (omega (arith, a .lies .stands .size, a .cellsLent))
+      (omega (arith, a .leftIs, a .room, a .lies .stands .right, a .lies .stands .size)) named)
+      (all-chosen empty (all-drop 1 listOctets))
+    where
+      go : (v : Bytes) (q : ℕ) → Picked l v q → Octets v
+          → Simulates n builtIns whole start (M.chooseAt r name q (lent l o)) (S.perform (limitsOf n (length start)) (gives v) c cs s)
+      go v q (nothing e) os = rw e (blockSim name [] (omega (arith, a .leftIs, a .room, a .lies .stands .right)) refl empty)
+      go v q (picked below x) os =
+          rw (ne-eqb q nowhere (λ (e : q ≡ nowhere). absurd (omega arith)), x .counted)
+          (blockSim (q + 1) v (omega (arith, x .within, a .lies .stands .size)) (x .bytes) os)
 
   -- A built-in -------------------------------------------------------------------------------------------------------
 
@@ -350,6 +405,9 @@ module _ {n : ℕ} {whole start : List ℕ} {r : Run} {l o : List ℕ} {s : Stat
   performSim Val long = valSim long
   performSim Update long = updateSim long
   performSim (Arithmetic op) long = arithmeticSim op long
+  performSim Seq long = seqSim long
+  performSim Size long = sizeSim long
+  performSim If long = ifSim
 
   -- what it needs, or 13
   suppliedSim : (bi : BuiltIn)

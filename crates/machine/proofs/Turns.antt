@@ -8,7 +8,7 @@ use lib.ListN.{length, getD}
 use lib.Dec.{eqb, leb}
 use Rattle.memory.specs.Block.{block, lowBytes}
 use Rattle.memory.proofs.Blocks.{block-more, length-lowBytes, getD-lowBytes}
-use Rattle.machine.specs.Walks.{nowhere, mark, argument, size, isNamed, nextPosition, nextList, newestFrom, definitionsFrom, high, low, isReadFrom, listLink, returnLink}
+use Rattle.machine.specs.Walks.{nowhere, mark, argument, isOne, chosenFrom, size, isNamed, nextPosition, nextList, newestFrom, definitionsFrom, high, low, isReadFrom, listLink, returnLink}
 
 -- the value of a test that a call answered
 pub told : {r b v : Bool} → r ≡ b → r ≡ v → b ≡ v
@@ -26,6 +26,19 @@ module _ (l : List ℕ) where
   unfolding argument
   argument-turn p zero h = omega arith
   argument-turn p (suc k) h = rw (less k)
+
+  pub chosen-done : (p : ℕ) → chosenFrom 0 l p ≡ nowhere
+  unfolding chosenFrom
+  chosen-done p = refl
+
+  pub chosen-turn :
+      (t p : ℕ) → 0 < t
+      → chosenFrom t l p
+      ≡ cond (leb (length l) p) nowhere
+      (cond (eqb (argument l p 2) nowhere) nowhere (cond (isOne l (argument l p 1)) (argument l p 2) (chosenFrom (t - 1) l (argument l p 2))))
+  unfolding chosenFrom
+  chosen-turn zero p h = absurd (omega arith)
+  chosen-turn (suc t) p h = rw (less t)
 
   pub newest-done : (p list name count : ℕ) → newestFrom 0 l p list name count ≡ nowhere
   unfolding newestFrom

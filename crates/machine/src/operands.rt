@@ -84,7 +84,11 @@ pub(crate) fn compare(cells: &[u32], first: usize, second: usize) -> u32
     ensures { λ r. ⌜ r ≡ compare (now (cells .entry)) first second ⌝ }
 {
     let count = memory::read(cells, first) as usize;
-    if memory::same_blocks(cells, first, second, count + 1) { 1 } else { 0 }
+    if memory::same_blocks(cells, first, second, count + 1) {
+        1
+    } else {
+        0
+    }
 }
 
 // The operation of a built-in on two arguments.

@@ -1,4 +1,4 @@
--- The names are tried in the order of the definition.
+-- The names are tried in the order of the definition, and the words from M6 are handed on.
 use borrow.Author.Needs.{needs}
 use Rattle.machine.specs.Walks.{namedAmong}
 use Rattle.machine.proofs.Turns.{told}
@@ -108,21 +108,26 @@ returns-5 c =
       told (c .before .same-bytes5 .ensures) (c .if5 .taken),
     )
 
+word-requires : tie.Need-word-requires
+word-requires c κs = search needs
+
 returns-6 : tie.Need-returns-6
 unfolding namedAmong
 returns-6 c =
-    let c₄ = c .before .before .before in
+    let c₅ = c .before in
+    let c₄ = c₅ .before .before .before in
     let c₃ = c₄ .before .before .before in
     let c₂ = c₃ .before .before .before in
     let c₁ = c₂ .before .before .before in
+    let count = c₁ .before .before .before .read .ensures in
     rw (
-      ← c₁ .before .before .before .read .ensures,
+      ← count,
       told (c₁ .before .same-bytes .ensures) (c₁ .if1 .left),
       told (c₂ .before .same-bytes2 .ensures) (c₂ .if2 .left),
       told (c₃ .before .same-bytes3 .ensures) (c₃ .if3 .left),
       told (c₄ .before .same-bytes4 .ensures) (c₄ .if4 .left),
-      told (c .before .same-bytes5 .ensures) (c .if5 .left),
-    )
+      told (c₅ .before .same-bytes5 .ensures) (c₅ .if5 .left),
+    ) (rw (← count) at (c .word .ensures))
 
 pub arithmetic-spec : {M : Type 1} → statement M
 arithmetic-spec =
@@ -150,4 +155,5 @@ arithmetic-spec =
     slice-aggregate-same-bytes-5
     same-bytes-requires-5
     returns-5
+    word-requires
     returns-6)

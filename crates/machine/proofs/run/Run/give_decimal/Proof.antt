@@ -2,8 +2,8 @@
 use mathlib.Core.Path.{refl}
 use borrow.Author.Needs.{needs}
 use Rattle.machine.proofs.Leaves.{ended, placed-on}
-use Rattle.machine.proofs.run.Run.give_text.Statement.{statement}
-use Rattle.machine.proofs.run.Run.give_text.Tie as tie
+use Rattle.machine.proofs.run.Run.give_decimal.Statement.{statement}
+use Rattle.machine.proofs.run.Run.give_decimal.Tie as tie
 
 give-requires : tie.Need-give-requires
 give-requires c κs = search needs
@@ -31,10 +31,11 @@ returns-2 : tie.Need-returns-2
 returns-2 c =
     let b = c .before .before .before .before in
     let b₂ = b .before .before .before .before in
-    rw (b .place-text .ensures) (placed-on _ (b₂ .before .give .ensures (b₂ .before .before .before .before .before .args .output .now) refl) (b .before .before .before .enum-told .given .1))
+    let g = b₂ .before .before in
+    rw (b .place-text .ensures) (placed-on _ (g .give .ensures (g .before .before .before .before .before .args .output .now) refl) (b₂ .enum-told .given .1))
 
-pub give-text-spec : {M : Type 1} → statement M
-give-text-spec =
+pub give-decimal-spec : {M : Type 1} → statement M
+give-decimal-spec =
     tie.close
     (tie.spec
     give-requires
