@@ -123,7 +123,7 @@ module _ (ks : List ℕ) {list : List Bytes} (P : All Octets list) {ds : List De
   performed-octets Update = update-octets ks (parameter 2 list) (all-getD [] empty P 2) (newest (parameter 1 list) ds)
   performed-octets (Arithmetic op) = result-octets (calculated op (parameter 1 list) (parameter 2 list))
   performed-octets Seq = either Octets (same (parameter 1 list) (parameter 2 list)) (with (omega arith) empty) (with (omega arith) empty)
-  performed-octets Size = decimal-octets _ (shortest-bytes (pos (length (parameter 1 list))))
+  performed-octets Size = decimal-octets _ (shortest-bytes (pos _))
   performed-octets If = all-chosen empty (all-drop 1 P)
 
   -- by what the name is found to be

@@ -241,7 +241,7 @@ module _ (T : Table) where
       performed-matches Update = update-matches ks (parameter 2 list) (parameter-matches 2) (newest (parameter 1 list) ds)
       performed-matches (Arithmetic op) = result-matches op (operand (parameter 1 list)) (operand (parameter 2 list))
       performed-matches Seq = either (Matched T) (same (parameter 1 list) (parameter 2 list)) (digit-matched 1 (omega arith)) (digit-matched 0 (omega arith))
-      performed-matches Size = digits-matched (length (parameter 1 list)) (length (parameter 1 list))
+      performed-matches Size = digits-matched _ _
       performed-matches If = all-chosen (matched-empty T) (all-drop 1 P)
 
       -- by what the name is found to be
