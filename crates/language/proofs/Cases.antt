@@ -160,6 +160,12 @@ shared =
     ("a script defines IF", "$DEF,IF,<mine~1>;$IF,2;", "mine2", report 0 23 5 30 21 1) ∷
     ("results collected", "$DEF,k,<[~1|~2]>;$k,$IF,$SEQ,a,a;,<x,y>;,$SIZE,abcd;;", "[x,y|4]", report 0 53 7 60 38 1) ∷
     ("a choice is not scanned", "$DEF,j,J;$IF,1,<$j;>;", "$j;", report 0 21 3 22 19 1) ∷
+    ("SEQ, a surplus parameter and a beginning", "$SEQ,ab,ab,abc;$SEQ,abc,ab;$SEQ,abc,abd;$SEQ,abc,bbc;", "1000", report 0 53 4 54 18 0) ∷
+    ("SIZE of nine and ten bytes", "$SIZE,123456789; $SIZE,1234567890;", "9 10", report 0 34 4 35 20 0) ∷
+    ("IF, firsts that are not 1", "$IF,01,a,+1,b,11,c,<1 >,d, 1,e,,f;$IF,true,a,1,b;", "b", report 0 49 1 50 35 0) ∷
+    ("IF, a first that stands second", "[$IF,a,1,b;][$IF,0,1,0,1;][$IF,1,1;]", "[][][1]", report 0 36 7 37 15 0) ∷
+    ("IF, an empty second", "[$IF,1,,1,b;][$IF,0,a,1,;]", "[][]", report 0 26 4 27 14 0) ∷
+    ("definitions made in the list of IF go", "$IF,1,a$DEF,m,z;;$m;", "a", report 15 20 1 20 22 0) ∷
     []
 
 -- scripts with letters in the language before request One
