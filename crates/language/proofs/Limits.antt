@@ -286,7 +286,7 @@ module _ (L : Limits) where
   separate-alike [] b s = put-alike (s .calls) (b ∷ []) s
   separate-alike (c ∷ cs) b s = charged endPrice s (kept refl tt)
 
-  -- the result of VAL or of arithmetic
+  -- the result of a built-in
   give-alike : (cs : List Call) (c : Call) (bs : Bytes) (s : State) → Alike (s .standing) (S.give L cs c bs s) (S.give noLimits cs c bs s)
   give-alike [] c bs s = written bs s refl tt
   give-alike (outer ∷ cs) c bs s = charged (endPrice + length bs) s (kept refl tt)

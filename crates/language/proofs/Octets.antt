@@ -193,7 +193,7 @@ module _ (L : Limits) where
       (goesOn (holds (g .text) (with (record { ended = list-octets c; hand = empty }) cs) (g .bodies) (g .definitions) (g .output)))
       (ending _ g)
 
-  -- the result of VAL or arithmetic
+  -- the result of a built-in
   give-octets : {cs : List Call} {bs : Bytes} (c : Call) (s : State) → All CallOctets cs → Octets bs → HoldsOctets s → Kept (S.give L cs c bs s)
   give-octets {bs = bs} c s empty p g =
       writingLeads L bs s

@@ -367,7 +367,7 @@ module _ (L : Limits) (T : Table) (plainly : ReservedPlain T) where
         (λ n. matches T (record { ended = list-matches T c (g .calls .0); hand = matched-empty T }, g .calls .1)
         (g .output) (g .bodies) (g .values))
 
-    -- the result of VAL or arithmetic
+    -- the result of a built-in
     give-keeps : (bs : Bytes) (c : Call) (cs : List Call) → Matched T bs → Keeps T (S.give L cs c bs) (stateOf t 0 (c ∷ cs) Bs w)
     give-keeps bs c [] m g =
         written bs (stateOf t 0 (c ∷ []) Bs w)

@@ -199,7 +199,8 @@ module _ (L : Limits) where
   separate [] b s = put (b ∷ []) s
   separate (c ∷ cs) b s = charging endPrice s (λ s. next (withCalls (separated c ∷ cs) s))
 
-  -- "A VAL or arithmetic result is charged before its list goes, if it is collected": the call c and its `;` are still charged
+  -- "A VAL or arithmetic result is charged before its list goes, if it is collected": the call c and its `;` are still charged.
+  -- Document 02, Four: "their results charged and placed like VAL's"
   abbrev pub give : List Call → Call → Bytes → State → Step
   give [] c bs s = writing bs s (λ s. next (withCalls [] (withDefinitions (oldest (c .stood) (s .standing .definitions)) s)))
   give (outer ∷ cs) c bs s =

@@ -1,4 +1,4 @@
--- A result in place of a list: VAL's value and the arithmetic's text.
+-- A result in place of a list: what a built-in gives.
 use Prim.Native.Nat.{ℕ, _+_, _-_, _≤_, _<_, max}
 use native.Mathlib.Omega.{arith}
 use mathlib.Core.Path.{_≡_, refl, sym, ap, subst, _∙_}

@@ -14,10 +14,8 @@ use Rattle.memory.proofs.Blocks.{sameBytes-in}
 use Rattle.decimal.specs.declared.operations.Operation.{Operation}
 use Rattle.decimal.specs.declared.operations.Answer.{Answer}
 use Rattle.decimal.specs.Operand.{operand, inRange}
-use Rattle.decimal.specs.Shortest.{shortest}
 use Rattle.decimal.specs.Arithmetic.{Result, number, refused, divides, isZero, exact, ofOperands, calculated}
 use Rattle.decimal.specs.Answers.{answerOf}
-use Rattle.decimal.proofs.Laws.{result-in-range, at-most-eleven}
 use Rattle.language.specs.declared.built_ins.BuiltIn.{BuiltIn}
 use Rattle.language.specs.Signs.{Bytes}
 use Rattle.language.specs.Outcomes
@@ -121,10 +119,6 @@ pub calculate-is : (op : Operation) {l : List ℕ} {first second : ℕ} {t₁ t�
     → TextAt l first t₁ → Octets t₁ → TextAt l second t₂ → Octets t₂
     → calculate op l first second ≡ answerOf (calculated op t₁ t₂)
 calculate-is op h₁ o₁ h₂ o₂ = rw (operandAt-is h₁ o₁, operandAt-is h₂ o₂)
-
--- a number is answered by its shortest decimal, which has at most eleven bytes
-pub answer-number : (op : Operation) (t₁ t₂ : Bytes) {z : ℤ} → calculated op t₁ t₂ ≡ number z → length (shortest z) ≤ 11
-answer-number op t₁ t₂ {z} e = at-most-eleven z (result-in-range op t₁ t₂ z e)
 
 -- a refusal is answered by its outcome, which is not that of a run that finishes
 pub answer-refused : (op : Operation) (t₁ t₂ : Bytes) {k : ℕ} → calculated op t₁ t₂ ≡ refused k → Refusing (answerOf (refused k)) k

@@ -12,6 +12,7 @@ use Rattle.decimal.specs.declared.operations.Operation.{Operation}
 use Rattle.decimal.specs.Arithmetic.{Result, number, refused, calculated}
 use Rattle.decimal.specs.Shortest.{digitsOf, digits, shortest}
 use Rattle.decimal.specs.Answers.{answerOf, filled, decimalOf}
+use Rattle.decimal.proofs.Laws.{result-in-range, at-most-eleven}
 use Rattle.decimal.proofs.Texts.{digits-room, filled-text, filled-length}
 use Rattle.language.specs.Outcomes
 use Rattle.language.specs.Signs.{Bytes, ascii}
@@ -40,7 +41,7 @@ use Rattle.machine.proofs.Represents.{Simulates, goes, outputSize}
 use Rattle.machine.proofs.Finds.{HoldsItems, Defines, DefinitionAt, definition-at, ArgumentAt, argument-at, argument-past, Newest, absent, present, newest-finds, isRead-finds}
 use Rattle.machine.proofs.Fetching.{block-low, each}
 use Rattle.machine.proofs.Altering.{alter, alterItems, alter-append, alter-width, alter-count, alterLaid, alterLefts, alterCalls, alterBodies, alterValid, Spot, spotOf, stored, alterDefinitions, alterSize, alterHigh, alterLow}
-use Rattle.machine.proofs.Naming.{TextAt, namedOf, Own, unknown, known, builtIns-only, builtInNamed-is, calculate-is, answer-number, answer-refused}
+use Rattle.machine.proofs.Naming.{TextAt, namedOf, Own, unknown, known, builtIns-only, builtInNamed-is, calculate-is, answer-refused}
 use Rattle.machine.proofs.Words.{compare-is, Picked, nothing, picked, chosen-at}
 use Rattle.machine.proofs.Applying.{Applied, listOf}
 use Rattle.machine.proofs.Calling.{argumentsAt, linksIs, rightTo, toAbove, freed, releaseIs, oldest-items, begun, movedIs}
@@ -357,7 +358,7 @@ module _ {n : ℕ} {whole start : List ℕ} {r : Run} {l o : List ℕ} {s : Stat
           → Simulates n builtIns whole start (M.giveAnswer r (answerOf R) (lent l o)) (S.perform (limitsOf n (length start)) (resultOf R) c cs s)
       go (refused k) e = let x = answer-refused op (parameter 1 list) (parameter 2 list) e in rw (x .fails) (refusing builtIns-free a k)
       go (number z) e =
-          decimalSim (shortest z) (answer-number op (parameter 1 list) (parameter 2 list) e)
+          decimalSim (shortest z) (at-most-eleven z (result-in-range op (parameter 1 list) (parameter 2 list) z e))
 
   -- SEQ, SIZE and IF -------------------------------------------------------------------------------------------------
 

@@ -6,7 +6,6 @@ use mathlib.Core.Bool.{Bool, true, false, cond}
 use mathlib.Core.List.{List, [], _∷_, _++_}
 use lib.ListN.{length, take, drop, getD}
 use lib.Seq.{drop-cons}
-use lib.Dec.{eqb, leb}
 use borrow.Author.Tests.{lt-leb, ne-eqb}
 use Rattle.memory.specs.Block.{block, same, sameBlocks}
 use Rattle.memory.proofs.Blocks.{eq-same, same-true, sameBlocks-in, sameBlocks-true, sameBytes-in}

@@ -436,7 +436,8 @@ chooseAt r name second m = cond (eqb second nowhere) (giveBlock r name 0 m) (giv
 abbrev pub choose : Run → ℕ → Lent → After
 choose r name m = chooseAt r name (chosen (m .cells) name) m
 
--- the built-in that has its parameters, the list of its call being at `name`: "Surplus parameters are ignored."
+-- the built-in that has its parameters, the list of its call being at `name`: "Surplus parameters are ignored." IF has none that
+-- are surplus
 abbrev pub performIn : Run → BuiltIn → ℕ → ℕ → ℕ → Lent → After
 performIn r Def name first second m = def r first second m
 performIn r Val name first second m = val r first m
