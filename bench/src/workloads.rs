@@ -17,6 +17,7 @@ pub fn all() -> Vec<Workload> {
         calls(7_200),
         nesting(500, 30),
         counting(100, 100),
+        choosing(100, 100),
         oldest(1_000, 2_000),
         newest(1_000, 2_000),
         long_arguments(8_000, 8),
@@ -79,13 +80,25 @@ pub fn nesting(depth: usize, times: usize) -> Workload {
 
 /// A loop that counts down to 0, by recursion and Strachey's conditional, so many times.
 pub fn counting(from: usize, times: usize) -> Workload {
+    looping(
+        "counted loop",
+        "$DEF,loop,<$~1,$DEF,~1,<~0.$loop,$-,~0,1;;>;$DEF,0,<>;;>;",
+        from,
+        times,
+    )
+}
+
+/// The same loop by IF and SEQ, which choose the macro that is called.
+pub fn choosing(from: usize, times: usize) -> Workload {
+    let defined = "$DEF,loop,<$$IF,$SEQ,~1,0;,end,1,go;,~1;>;$DEF,end,;$DEF,go,<~1.$loop,$-,~1,1;;>;";
+    looping("loop by IF", defined, from, times)
+}
+
+fn looping(name: &str, defined: &str, from: usize, times: usize) -> Workload {
     let counted: String = (1..=from).rev().map(|number| format!("{number}.")).collect();
     Workload {
-        name: "counted loop".to_string(),
-        gpm: format!(
-            "$DEF,loop,<$~1,$DEF,~1,<~0.$loop,$-,~0,1;;>;$DEF,0,<>;;>;{}",
-            format!("$loop,{from};\n").repeat(times)
-        ),
+        name: name.to_string(),
+        gpm: format!("{defined}{}", format!("$loop,{from};\n").repeat(times)),
         m4: format!(
             "define(`loop',`ifelse($1,0,,`$1.loop(decr($1))')'){}",
             format!("loop({from})\n").repeat(times)
