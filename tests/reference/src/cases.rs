@@ -1,6 +1,7 @@
-//! Scripts with known ends, worked out by hand from document 01 and document 02's requests One to Three, against both
+//! Scripts with known ends, worked out by hand from document 01 and document 02's requests One to Four, against both
 //! halves.
 mod charge_carried;
+mod m6_words;
 mod own_signs;
 
 use crate::arithmetic::{reckon, Operation};
@@ -558,7 +559,7 @@ fn traced_run_is_the_run() {
 fn last_handled(script: &str) -> Option<(Handled, Option<Vec<u8>>)> {
     let mut last = None;
     traced(script, &Lent::PROGRAM, &mut |row| {
-        if row.ended {
+        if row.ended() {
             last = Some((row.handled, row.parameter().map(<[u8]>::to_vec)));
         }
     });

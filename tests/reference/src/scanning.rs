@@ -43,11 +43,11 @@ pub fn run_traced(signs: &Checked, text: &[u8], lent: &Lent, each: &mut dyn FnMu
     checked(signs, text, lent, signs::digit_or_letter, |machine| {
         let handled = machine.due();
         let scanned = machine.scan();
-        let ended = scanned.is_err();
+        let outcome = scanned.err();
         each(&Row {
             machine,
             handled,
-            ended,
+            outcome,
         });
         scanned
     })
@@ -167,6 +167,8 @@ struct Machine<'a> {
     scans: u64,
     most: usize,
     gone: Gone,
+    /// The list that a built-in acted on last, and the scan in which it went.
+    acted_on: Option<(u64, Call)>,
 }
 
 impl Call {
@@ -183,6 +185,10 @@ impl Call {
         };
         let to = self.commas.get(number).copied().unwrap_or(self.bytes.len());
         Some(&self.bytes[from..to])
+    }
+
+    fn items(&self) -> Vec<&[u8]> {
+        (0..).map_while(|number| self.item(number)).collect()
     }
 }
 
@@ -209,6 +215,7 @@ impl<'a> Machine<'a> {
             scans: 0,
             most: 0,
             gone: Gone::default(),
+            acted_on: None,
         }
     }
 
@@ -342,7 +349,7 @@ impl<'a> Machine<'a> {
             return Err(14);
         }
         let body = self.bodies.pop().expect("the body that ended");
-        self.end_list(body.call, body.applied);
+        self.end_list(&body.call, body.applied);
         Ok(())
     }
 
@@ -402,7 +409,7 @@ impl<'a> Machine<'a> {
     }
 
     /// "The list of name and parameters goes, with every definition made while it was collected."
-    fn end_list(&mut self, call: Call, applied: u64) {
+    fn end_list(&mut self, call: &Call, applied: u64) {
         let before = self.definitions.len();
         self.definitions
             .retain(|definition| definition.made < call.opened || definition.made > applied);
@@ -461,6 +468,9 @@ impl Machine<'_> {
             BuiltIn::Val => self.val(),
             BuiltIn::Update => self.update(),
             BuiltIn::Arithmetic(operation) => self.reckon(operation),
+            BuiltIn::Seq => self.seq(),
+            BuiltIn::Size => self.size(),
+            BuiltIn::If => self.choose(),
         }
     }
 
@@ -512,8 +522,35 @@ impl Machine<'_> {
         self.give(&result)
     }
 
+    /// "`SEQ` gives 1 if its two parameters are the same bytes, else 0."
+    fn seq(&mut self) -> Scanned {
+        let same = self.item(1) == self.item(2);
+        self.give(if same { b"1" } else { b"0" })
+    }
+
+    /// "`SIZE` gives the length of its parameter in decimal."
+    fn size(&mut self) -> Scanned {
+        let length = self.item(1).len();
+        self.give(length.to_string().as_bytes())
+    }
+
+    /// "`IF` takes its parameters in pairs from the left and gives the second of the first pair whose first is exactly
+    /// `1`, or nothing; an unpaired last one is ignored."
+    fn choose(&mut self) -> Scanned {
+        let call = self.calls.last().expect("the call applied");
+        let mut first = 1;
+        while let (Some(condition), Some(second)) = (call.item(first), call.item(first + 1)) {
+            if condition == b"1" {
+                let second = second.to_vec();
+                return self.give(&second);
+            }
+            first += 2;
+        }
+        self.give(b"")
+    }
+
     /// "A VAL or arithmetic result is charged before its list goes, if it is collected": beside the cell of `;`,
-    /// and by a call outside the one that ends here.
+    /// and by a call outside the one that ends here. The results of request Four are "charged and placed like VAL's".
     fn give(&mut self, result: &[u8]) -> Scanned {
         if self.calls.len() > 1 {
             self.allow(1 + result.len())?;
@@ -528,7 +565,8 @@ impl Machine<'_> {
     /// "Built-ins act within the `;` scan; then their call ends as above".
     fn end_built_in(&mut self) {
         let call = self.calls.pop().expect("the call applied");
-        self.end_list(call, self.scans);
+        self.end_list(&call, self.scans);
+        self.acted_on = Some((self.scans, call));
     }
 }
 
@@ -579,8 +617,8 @@ impl Machine<'_> {
 pub struct Row<'a> {
     machine: &'a Machine<'a>,
     pub handled: Handled,
-    /// Whether the run ended with this scan.
-    pub ended: bool,
+    /// The outcome, where the run ended with this scan.
+    pub outcome: Option<u64>,
 }
 
 impl Row<'_> {
@@ -588,13 +626,14 @@ impl Row<'_> {
         self.machine.scans
     }
 
+    pub fn ended(&self) -> bool {
+        self.outcome.is_some()
+    }
+
     /// The calls being collected, outermost first, each as it would be written.
     pub fn calls(&self) -> Vec<Vec<u8>> {
         let [begins, separates] = [signs::CALL, signs::COMMA].map(|kind| self.machine.table.sign(kind));
-        let written = |call: &Call| {
-            let items: Vec<&[u8]> = (0..).map_while(|number| call.item(number)).collect();
-            [&[begins], items.join(&separates).as_slice()].concat()
-        };
+        let written = |call: &Call| [&[begins], call.items().join(&separates).as_slice()].concat();
         self.machine.calls.iter().map(written).collect()
     }
 
@@ -610,6 +649,17 @@ impl Row<'_> {
         };
         let number = (self.machine.reading)(byte)?;
         self.machine.bodies.last()?.call.item(number)
+    }
+
+    /// The list that a built-in acted on in this scan, its name first; where `;` was refused, that of its call.
+    pub fn applied(&self) -> Option<Vec<&[u8]>> {
+        let machine = self.machine;
+        let applies = |byte| machine.quotes == 0 && machine.table.kind(byte) == signs::APPLY;
+        match (&machine.acted_on, self.handled) {
+            (Some((scan, call)), _) if *scan == machine.scans => Some(call.items()),
+            (_, Handled::Byte(byte)) if self.ended() && applies(byte) => machine.calls.last().map(Call::items),
+            _ => None,
+        }
     }
 
     pub fn output(&self) -> &[u8] {

@@ -122,10 +122,13 @@ pub enum BuiltIn {
     Val,
     Update,
     Arithmetic(Operation),
+    Seq,
+    Size,
+    If,
 }
 
-/// The built-in names, which are fixed byte strings.
-pub const BUILT_INS: [(&[u8], BuiltIn); 8] = [
+/// The built-in names, which are fixed byte strings; the last three are those of document 02's request Four.
+pub const BUILT_INS: [(&[u8], BuiltIn); 11] = [
     (b"DEF", BuiltIn::Def),
     (b"VAL", BuiltIn::Val),
     (b"UPDATE", BuiltIn::Update),
@@ -134,12 +137,15 @@ pub const BUILT_INS: [(&[u8], BuiltIn); 8] = [
     (b"*", BuiltIn::Arithmetic(Operation::Times)),
     (b"Quot", BuiltIn::Arithmetic(Operation::Quot)),
     (b"Rem", BuiltIn::Arithmetic(Operation::Rem)),
+    (b"SEQ", BuiltIn::Seq),
+    (b"SIZE", BuiltIn::Size),
+    (b"IF", BuiltIn::If),
 ];
 
-/// "VAL needs one parameter, the others two."
+/// "VAL needs one parameter, the others two." By request Four, "SEQ and IF need two parameters, SIZE one".
 pub fn parameters_needed(built_in: BuiltIn) -> usize {
     match built_in {
-        BuiltIn::Val => 1,
+        BuiltIn::Val | BuiltIn::Size => 1,
         _ => 2,
     }
 }

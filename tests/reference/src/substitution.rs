@@ -144,6 +144,12 @@ fn cost_of_list(list: &Pieces) -> usize {
     4 + (list.len() - 1) + bytes + 1
 }
 
+/// What IF gives: "the second of the first pair whose first is exactly `1`, or nothing".
+fn chosen(parameters: &[Vec<u8>]) -> &[u8] {
+    let mut pairs = parameters.chunks_exact(2);
+    pairs.find(|pair| pair[0] == b"1").map_or(&[], |pair| &pair[1])
+}
+
 /// The value of a stretch.
 impl Handed<'_> {
     /// The value of what is left of a stretch, to its end or, for a list, to the `;` that applies the call.
@@ -361,10 +367,13 @@ impl Handed<'_> {
                 Ok(number) => self.result(&number, known),
                 Err(outcome) => fault(outcome),
             },
+            BuiltIn::Seq => self.result(if list[1] == list[2] { b"1" } else { b"0" }, known),
+            BuiltIn::Size => self.result(format!("{}", list[1].len()).as_bytes(), known),
+            BuiltIn::If => self.result(chosen(&list[1..]), known),
         }
     }
 
-    /// A result, charged if it is collected; its list is still there.
+    /// A result, charged if it is collected; its list is still there. So are the results of request Four.
     fn result(&mut self, bytes: &[u8], known: Known) -> Result<Made, Stop> {
         let mut pieces = vec![Vec::new()];
         self.add(bytes, known, &mut pieces)?;

@@ -100,7 +100,7 @@ impl Carried {
     /// The figure is the sum. A refused scan leaves it, with at most the cell of `;` allowed within it.
     fn is_the_sum(&self, row: &Row, script: &str) {
         assert_eq!(self.charge, row.charge(), "{script} at scan {}", row.scan());
-        let highest = match row.ended {
+        let highest = match row.ended() {
             true if row.most() > self.highest => self.charge + 1,
             _ => self.highest,
         };
@@ -112,7 +112,7 @@ impl Carried {
 fn carried_beside(script: &str) -> (bool, usize) {
     let (mut carried, mut gone) = (Carried::default(), 0);
     let end = traced(script, &Lent::PROGRAM, &mut |row| {
-        if !row.ended {
+        if !row.ended() {
             carried.follow(row);
         }
         carried.is_the_sum(row, script);

@@ -13,6 +13,7 @@ impl Grower {
             0 => self.put(&format!("<{name}>")),
             1 => self.put(&format!("<>{name}")),
             2 => self.put(&format!("$v,$DEF,v,<{name}>;;")),
+            4 => self.put(&format!("$IF,1,<{name}>;")),
             3 if place.depth < 4 => {
                 self.definition(place.argument());
                 self.put(name);
@@ -102,7 +103,18 @@ impl Grower {
 
     /// The parameters of a built-in, or all of a call, from the commas of a body, as in case f.
     pub fn handed(&mut self, _: Place) {
-        const LISTS: [&str; 6] = ["DEF,a,x", "+,1,2", "b,1", "-,7", "VAL,b", "UPDATE,b,"];
+        const LISTS: [&str; 10] = [
+            "DEF,a,x",
+            "+,1,2",
+            "b,1",
+            "-,7",
+            "VAL,b",
+            "UPDATE,b,",
+            "SEQ,x,x",
+            "SIZE,xy",
+            "IF,1,x",
+            "IF,0,x,1",
+        ];
         let (name, rest) = self.random.pick(&LISTS).split_once(',').unwrap_or_default();
         let script = match self.random.below(3) {
             0 => format!("$$v,$DEF,v,<{name},{rest}>;;$DEF,b,<~1>;,2;"),

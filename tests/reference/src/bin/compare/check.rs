@@ -1,6 +1,7 @@
 //! One check: the library's run of a script against both definitions.
 use crate::charging::{self, Course};
 use crate::fetching;
+use crate::giving;
 use crate::lending;
 use crate::library;
 use crate::memory::Memory;
@@ -9,26 +10,33 @@ use reference::ends::{End, Report};
 use reference::scanning::{self, Lent};
 use reference::substitution::{substitute, Bounds};
 
-/// What a script's run is lent, and how it ends by scanning, with the ways that `~` went and the course of the charge.
+/// What a script's run is lent, and how it ends by scanning, with the ways that `~` and the words from M6 went and the
+/// course of the charge.
 pub struct Run {
     pub lent: Lent,
     pub scanned: End,
     pub course: Course,
     fetching: fetching::Ways,
+    giving: giving::Ways,
 }
 
 /// The ways that a run came to, which are counted.
 pub struct Told {
     pub fetching: fetching::Ways,
     pub charging: charging::Ways,
+    pub giving: giving::Ways,
 }
 
 impl Run {
     pub fn new(script: &Script, lent: Lent) -> Run {
-        let (mut fetching, mut course) = (fetching::Ways::default(), Course::default());
+        let (mut fetching, mut giving) = (fetching::Ways::default(), giving::Ways::default());
+        let mut course = Course::default();
         let scanned = scanning::run_traced(script.checked(), &script.text, &lent, &mut |row| {
             if let Some(way) = fetching::way(row) {
                 fetching[way] = true;
+            }
+            if let Some(way) = giving::way(row, lent.cells) {
+                giving[way] = true;
             }
             course.follow(row);
         });
@@ -37,6 +45,7 @@ impl Run {
             scanned,
             course,
             fetching,
+            giving,
         }
     }
 
@@ -45,6 +54,7 @@ impl Run {
         Told {
             fetching: self.fetching,
             charging: self.course.ways(&self.scanned.report, with_plenty),
+            giving: self.giving,
         }
     }
 }

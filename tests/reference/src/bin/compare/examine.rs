@@ -1,5 +1,5 @@
-//! One script: with plenty, about what it needs, often about a record of its charge, and now and then about the longest
-//! that may be lent.
+//! One script: with plenty, about what it needs, often about a record of its charge, with all that may be lent where
+//! the cells were soon too few, and now and then about the longest that may be lent.
 use crate::check::{check, substituted, Difference, Run};
 use crate::lending;
 use crate::memory::Memory;
@@ -24,9 +24,13 @@ pub fn runs(script: &Script, random: &mut Random) -> Vec<Run> {
     if !records.is_empty() && random.one_in(4) {
         runs.push(Run::new(script, lending::about_record(&records, &plenty, random)));
     }
+    let soon_too_few = need.outcome == 4 && need.scans < LONG;
+    if soon_too_few {
+        runs.extend(with_all(script, &plenty, random));
+    }
     // Often where the signs are refused, as 2 comes before that, and always where the cells were soon too few.
     let seldom = match need.outcome {
-        4 if need.scans < LONG => 1,
+        _ if soon_too_few => 1,
         30.. => 8,
         _ => 250,
     };
@@ -34,6 +38,14 @@ pub fn runs(script: &Script, random: &mut Random) -> Vec<Run> {
         runs.push(Run::new(script, lending::longest(&need, &plenty, random)));
     }
     runs
+}
+
+/// The run with all that may be lent, and one about what it needs.
+fn with_all(script: &Script, plenty: &Lent, random: &mut Random) -> [Run; 2] {
+    let all = lending::all(plenty);
+    let run = Run::new(script, all);
+    let about = lending::around(&run.scanned.report, &all, random);
+    [run, Run::new(script, about)]
 }
 
 /// Every check of one script, to the first difference.

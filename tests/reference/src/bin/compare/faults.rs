@@ -5,8 +5,11 @@ use crate::letters;
 use crate::numbers;
 use crate::random::Random;
 
-/// The outcomes that a planted piece leads to. 12 and 13 have more pieces than the others, and stand here twice.
-pub const PLANTED: [u64; 18] = [1, 10, 11, 12, 12, 13, 13, 14, 15, 16, 17, 18, 19, 20, 21, 22, 23, 24];
+/// The outcomes that a planted piece leads to. 12 and 13 have more pieces than the others, and stand here twice and
+/// thrice.
+pub const PLANTED: [u64; 19] = [
+    1, 10, 11, 12, 12, 13, 13, 13, 14, 15, 16, 17, 18, 19, 20, 21, 22, 23, 24,
+];
 
 /// A piece for a fault of the text, or for the end at a bare `>`.
 pub fn planted(outcome: u64, place: Place, random: &mut Random) -> Vec<u8> {
@@ -23,6 +26,11 @@ pub fn planted(outcome: u64, place: Place, random: &mut Random) -> Vec<u8> {
             "$DEFF,a,b;",
             "$<a ;>;",
             "$k$DEF,kk,;,1;",
+            "$IFF,1,a;",
+            "$If,1,a;",
+            "$SE,a,a;",
+            "$SIZ,a;",
+            "$SIZES,a;",
         ])),
         16 => text(random.pick(&["$a>", "$DEF,a,x>y;", "$a,$b,<c>>;"])),
         17 => text(random.pick(&["<", "$a,<", "<<a>", "$DEF,a,<<x>;"])),
@@ -74,19 +82,19 @@ fn missing(in_body: bool, random: &mut Random) -> Vec<u8> {
         "$DEF,z,<x~1>;$z;",
         "$DEF,z,<~9>;$z,1,2,3,4,5,6,7,8;",
     ]);
-    let built_in = random.pick(&built_ins::ALL);
+    let built_in = built_ins::any(random);
     match random.below(6) {
-        _ if in_body => text(random.pick(&["~9", "~a", "~z"])),
+        3..=5 if in_body => text(random.pick(&["~9", "~a", "~z"])),
         0 => text(piece),
-        4..=5 => letters::one_short(random),
-        1 if built_in != "VAL" => format!("${built_in},1;").into_bytes(),
-        2 => format!("${built_in}<>;").into_bytes(),
+        5 => letters::one_short(random),
+        1..=2 if !built_ins::OF_ONE.contains(&built_in) => format!("${built_in},1;").into_bytes(),
+        3 => format!("${built_in}<>;").into_bytes(),
         _ => format!("${built_in};").into_bytes(),
     }
 }
 
 fn built_in(random: &mut Random) -> Vec<u8> {
-    let built_in = random.pick(&built_ins::ALL);
+    let built_in = built_ins::any(random);
     match random.below(3) {
         0 => format!("$UPDATE,{built_in},x;").into_bytes(),
         1 => format!("$UPDATE,{built_in},;").into_bytes(),

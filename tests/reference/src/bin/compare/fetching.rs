@@ -11,7 +11,7 @@ pub type Ways = [bool; WAYS.len()];
 /// The way that a scan went, if one.
 pub fn way(row: &Row) -> Option<usize> {
     match (row.handled, row.parameter()) {
-        (Handled::Parameter(b'a'..=b'z'), Some(parameter)) => (!row.ended && !parameter.is_empty()).then_some(0),
+        (Handled::Parameter(b'a'..=b'z'), Some(parameter)) => (!row.ended() && !parameter.is_empty()).then_some(0),
         (Handled::Parameter(b'a'..=b'z'), None) => Some(1),
         (Handled::FetchesNothing(Some(_)), _) => Some(2),
         (Handled::FetchesNothing(None), _) => Some(3),

@@ -1,5 +1,6 @@
 //! The mix of scripts.
 use crate::brim;
+use crate::bulk_words;
 use crate::faults::PLANTED;
 use crate::grower::grown;
 use crate::noise;
@@ -9,9 +10,11 @@ use crate::refused_signs;
 use crate::script::Script;
 use crate::soak;
 
-/// One script in so many is a soak script, and one in so many comes up to the most cells that may be lent.
+/// One script in so many is a soak script, one in so many comes up to the most cells that may be lent, and one in so
+/// many calls the words from M6 with thousands of bytes.
 const SOAKS: usize = 25;
 const BRIMS: usize = 300;
+const BULKS: usize = 120;
 
 /// How many items a script is grown from: mostly few, seldom hundreds.
 fn size(random: &mut Random) -> usize {
@@ -38,6 +41,9 @@ fn text(random: &mut Random) -> Vec<u8> {
     }
     if random.one_in(BRIMS) {
         return brim::script(random);
+    }
+    if random.one_in(BULKS) {
+        return bulk_words::script(random);
     }
     if random.one_in(SOAKS) {
         return soak::script(random);

@@ -2,6 +2,7 @@
 //! calls find one, with the parameters that its body fetches.
 use crate::faults;
 use crate::letters;
+use crate::m6_words;
 use crate::numbers;
 use crate::random::Random;
 use crate::recursion;
@@ -66,7 +67,7 @@ pub struct Known {
 type Weights = [usize; 3];
 type Item = fn(&mut Grower, Place);
 
-const ITEMS: [(Weights, Item); 20] = [
+const ITEMS: [(Weights, Item); 25] = [
     ([100, 150, 120], Grower::word),
     ([160, 60, 60], Grower::definition),
     ([260, 150, 220], Grower::call),
@@ -75,6 +76,11 @@ const ITEMS: [(Weights, Item); 20] = [
     ([40, 40, 40], Grower::value),
     ([60, 30, 50], Grower::update),
     ([40, 50, 50], Grower::arithmetic),
+    ([30, 30, 30], m6_words::compared),
+    ([25, 25, 25], m6_words::measured),
+    ([50, 50, 50], m6_words::chosen),
+    ([10, 5, 10], m6_words::branched),
+    ([5, 3, 3], m6_words::hidden),
     ([40, 30, 30], Grower::temporary),
     ([20, 15, 10], Grower::handed),
     ([30, 15, 10], Grower::maker),

@@ -65,6 +65,15 @@ pub fn about_record(records: &[usize], plenty: &Lent, random: &mut Random) -> Le
     Lent { cells, ..*plenty }
 }
 
+/// All cells and all output that may be lent.
+pub fn all(plenty: &Lent) -> Lent {
+    Lent {
+        cells: LONGEST,
+        output: LONGEST,
+        ..*plenty
+    }
+}
+
 /// Sizes about the longest that may be lent, mostly as many cells as may be where plenty was not enough; the allowance
 /// has no bound where the script has an end.
 pub fn longest(need: &Report, plenty: &Lent, random: &mut Random) -> Lent {

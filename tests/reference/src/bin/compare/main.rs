@@ -4,6 +4,7 @@
 //!     compare --one SEED NUMBER       one script, shown
 mod brim;
 mod built_ins;
+mod bulk_words;
 mod calls;
 mod charging;
 mod check;
@@ -12,10 +13,12 @@ mod examine;
 mod faults;
 mod fetching;
 mod generate;
+mod giving;
 mod grower;
 mod lending;
 mod letters;
 mod library;
+mod m6_words;
 mod memory;
 mod noise;
 mod numbers;

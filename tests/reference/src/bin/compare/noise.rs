@@ -1,14 +1,15 @@
 //! Scripts that nobody would write: raw bytes, loose tokens, and well-formed scripts edited at random or cut.
 use crate::random::Random;
 
-const TOKENS: [&str; 30] = [
-    "$DEF,", "$DEF,a,<", "$DEF,b,", "$a", "$b;", "$a,", "$VAL,a;", "$UPDATE,", "$+,1,", "$Rem,", "a", "b", "x", "1",
-    "-7", ",", ",", ";", ";", ";", "~1", "~0", "~2", "~a", "~z", "~", "<", ">", ">;", "$",
+const TOKENS: [&str; 34] = [
+    "$DEF,", "$DEF,a,<", "$DEF,b,", "$a", "$b;", "$a,", "$VAL,a;", "$UPDATE,", "$+,1,", "$Rem,", "$SEQ,a,", "$SIZE,",
+    "$IF,1,", "$IF,0,a,", "a", "b", "x", "1", "-7", ",", ",", ";", ";", ";", "~1", "~0", "~2", "~a", "~z", "~", "<",
+    ">", ">;", "$",
 ];
 
 fn plain_or_sign(random: &mut Random) -> u8 {
     const SIGNS: &[u8] = b"$$$,,,;;;;~~<>";
-    const PLAIN: &[u8] = b"ab01kDEFVALxy-+*";
+    const PLAIN: &[u8] = b"ab01kDEFVALIxy-+*";
     match random.below(8) {
         0..=3 => SIGNS[random.below(SIGNS.len())],
         4..=6 => PLAIN[random.below(PLAIN.len())],

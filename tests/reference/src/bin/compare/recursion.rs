@@ -35,6 +35,20 @@ pub fn conditional(grower: &mut Grower, place: Place) {
     }
 }
 
+/// Counts down from a digit to 0, choosing by IF which name is called.
+fn counted_by_if(grower: &mut Grower) {
+    const STEPS: [&str; 4] = [
+        "$IF,$SEQ,~1,0;,z,1,f;",
+        "$IF,$SEQ,~1,1;,z,$SIZE,~1;,f,1,z;",
+        "$IF,$SEQ,~1,0;,z,$SEQ,~1,3;,g,1,f;",
+        "$IF,0,f,$SEQ,~1~1,00;,z,1,f;",
+    ];
+    let step = grower.random.pick(&STEPS);
+    let from = grower.random.between(0, 9);
+    grower.put("$DEF,z,end;$DEF,g,<g$f,~1;>;");
+    grower.put(&format!("$DEF,f,<~1 ${step},$-,~1,1;;>;$f,{from};"));
+}
+
 /// Counts down from a digit to 0 by the conditional, giving text or a number on the way.
 pub fn countdown(grower: &mut Grower, _: Place) {
     const STEPS: [&str; 6] = [
@@ -45,6 +59,9 @@ pub fn countdown(grower: &mut Grower, _: Place) {
         "$f,$Quot,~1,2;;$f,$Quot,~1,2;;",
         "$DEF,k,~1;$f,$-,~1,1;;$VAL,k;",
     ];
+    if grower.random.one_in(2) {
+        return counted_by_if(grower);
+    }
     let step = grower.random.pick(&STEPS);
     let from = grower.random.between(0, 9);
     grower.put(&format!("$DEF,f,<$~1,~1,$DEF,~1,<{step}>;$DEF,0,1;;>;$f,{from};"));

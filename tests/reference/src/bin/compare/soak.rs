@@ -14,6 +14,12 @@ const HEAD: &str = "$DEF,e,;$DEF,i,<~1>;$DEF,d,<~1~1~1~1>;$DEF,p,<x,y>;$DEF,m,<$
 /// Names of definitions that are not called.
 const NAMES: [&str; 5] = ["t", "u", "", "ab", "t"];
 
+/// Texts of which a part is never the beginning.
+const LONG: [&str; 2] = [
+    "abcdefghijklmnopqrstuvwxyz0123456789",
+    "<ABC,DEF;GHI$JKL~MNO>PQRSTUVWXYZ0123456789abcdefghijklmnopqrstuvwxyz.-+_|/()0011223344556677889900",
+];
+
 /// How deep calls nest.
 const DEEPEST: usize = 4;
 
@@ -37,12 +43,15 @@ const SILENT: [(usize, Piece); 5] = [
 ];
 
 /// Pieces that give text.
-const GIVING: [(usize, Piece); 7] = [
+const GIVING: [(usize, Piece); 10] = [
     (4, Soak::word),
     (3, Soak::given),
     (2, Soak::fetched),
     (2, Soak::value),
     (2, Soak::reckoned),
+    (1, Soak::compared),
+    (1, Soak::measured),
+    (2, Soak::chosen),
     (1, Soak::commas),
     (2, Soak::named),
 ];
@@ -191,9 +200,19 @@ impl Soak {
         self.called(&["g"], depth, 2);
     }
 
-    /// The name is itself given: by a body, by VAL or by the arithmetic.
+    /// The name is itself given: by a body, by VAL, by the arithmetic or by the words from M6.
     fn named(&mut self, depth: usize) {
-        self.called(&["$i,i;", "$VAL,w;", "$VAL,w,v;", "$+,3,4;", "$-,3,-4;"], depth, 1);
+        const NAMES: [&str; 8] = [
+            "$i,i;",
+            "$VAL,w;",
+            "$VAL,w,v;",
+            "$+,3,4;",
+            "$-,3,-4;",
+            "$IF,0,e,1,i;",
+            "$IF,$SEQ,x,x;,i,1,e;",
+            "$SIZE,1234567;",
+        ];
+        self.called(&NAMES, depth, 1);
     }
 
     fn commas(&mut self, _: usize) {
@@ -256,6 +275,44 @@ impl Soak {
             self.put(number);
         }
         self.surplus(depth);
+        self.put(";");
+    }
+
+    /// With the same word twice, or any pieces.
+    fn compared(&mut self, depth: usize) {
+        self.put("$SEQ,");
+        if self.random.one_in(2) {
+            self.silent(depth);
+            self.put("no,no");
+            self.surplus(depth);
+        } else {
+            self.pieces(depth);
+            self.put(",");
+            self.pieces(depth);
+        }
+        self.put(";");
+    }
+
+    fn measured(&mut self, depth: usize) {
+        self.put("$SIZE,");
+        self.pieces(depth);
+        self.surplus(depth);
+        self.put(";");
+    }
+
+    /// Of some pairs, of which one mostly holds; at times its second is longer than what stands before it.
+    fn chosen(&mut self, depth: usize) {
+        self.put("$IF");
+        for _ in 0..self.random.between(1, 5) {
+            self.put(",");
+            self.silent(depth);
+            self.one_of(&["1", "0", "0", "", "01", "$SEQ,x,x;", "$SEQ,x,no;"]);
+            self.put(",");
+            match self.random.below(5) {
+                0 => self.one_of(&LONG),
+                _ => self.pieces(depth),
+            }
+        }
         self.put(";");
     }
 }

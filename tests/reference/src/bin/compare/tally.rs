@@ -1,16 +1,19 @@
-//! How often each outcome was come to, each way that `~` went, each way that the charge went, and each row about signs
-//! that are lent.
+//! How often each outcome was come to, each way that `~`, the charge and the words from M6 went, and each row about
+//! signs that are lent.
 use crate::charging;
 use crate::check::Told;
 use crate::fetching;
+use crate::giving;
 use crate::script::Script;
 use crate::signing::{self, ROWS};
 use reference::ends::Report;
 
 const OUTCOMES: usize = 33;
-/// The ways of `~` are counted in the places after the outcomes, then those of the charge, and then the rows.
+/// The ways of `~` are counted in the places after the outcomes, then those of the charge, those of the words from M6,
+/// and then the rows.
 const FIRST_OF_CHARGE: usize = OUTCOMES + fetching::WAYS.len();
-const FIRST_ROW: usize = FIRST_OF_CHARGE + charging::WAYS.len();
+const FIRST_OF_WORDS: usize = FIRST_OF_CHARGE + charging::WAYS.len();
+const FIRST_ROW: usize = FIRST_OF_WORDS + giving::WAYS.len();
 const PLACES: usize = FIRST_ROW + ROWS.len();
 
 /// Each must occur, so that a comparison that never comes to it does not pass. Few texts are so long as to give 2, and
@@ -25,6 +28,7 @@ fn asked(place: usize) -> bool {
 fn label(place: usize) -> String {
     match place {
         FIRST_ROW.. => ROWS[place - FIRST_ROW].0.to_string(),
+        FIRST_OF_WORDS.. => giving::WAYS[place - FIRST_OF_WORDS].to_string(),
         FIRST_OF_CHARGE.. => charging::WAYS[place - FIRST_OF_CHARGE].to_string(),
         OUTCOMES.. => fetching::WAYS[place - OUTCOMES].to_string(),
         _ => place.to_string(),
@@ -41,6 +45,7 @@ fn places<'a>(script: &'a Script, report: &'a Report, told: &'a Told) -> impl It
     let rows = signing::rows(script, report).into_iter();
     places_of(&told.fetching, OUTCOMES)
         .chain(places_of(&told.charging, FIRST_OF_CHARGE))
+        .chain(places_of(&told.giving, FIRST_OF_WORDS))
         .chain(rows.map(|row| FIRST_ROW + row))
         .chain([report.outcome as usize])
 }
