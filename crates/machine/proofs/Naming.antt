@@ -12,7 +12,6 @@ use borrow.Author.Tests.{le-leb}
 use Rattle.memory.specs.Block.{block, same}
 use Rattle.memory.proofs.Blocks.{sameBytes-in}
 use Rattle.decimal.specs.declared.operations.Operation.{Operation}
-use Rattle.decimal.specs.declared.operations.Answer.{Answer}
 use Rattle.decimal.specs.Operand.{operand, inRange}
 use Rattle.decimal.specs.Arithmetic.{Result, number, refused, divides, isZero, exact, ofOperands, calculated}
 use Rattle.decimal.specs.Answers.{answerOf}
@@ -22,11 +21,13 @@ use Rattle.language.specs.Outcomes
 use Rattle.language.specs.Definitions.{Content, macro, builtIn, Definition, Found, found, missing, newest, counts, live}
 use Rattle.language.specs.Definitions as D
 use Rattle.language.specs.BuiltIns.{builtIns}
+use Rattle.language.specs.Charge.{argumentsPrice}
 use Rattle.language.proofs.Lists.{either}
 use Rattle.language.specs.Octets.{Octets}
 use Rattle.machine.specs.Walks.{namedAs, namedAmong, builtInNamed, operandAt, calculate}
 use Rattle.machine.specs.declared.operands.Named.{Named}
 use Rattle.machine.specs.declared.operands.Named.the-variants.{Unknown}
+use Rattle.machine.proofs.Finds.{ArgumentAt}
 use Rattle.machine.proofs.Fetching.{block-low}
 
 -- What is shown ------------------------------------------------------------------------------------------------------
@@ -37,6 +38,10 @@ pub record TextAt (l : List ℕ) (p : ℕ) (t : Bytes) : Type 0 where
   pub bytes : block (p + 1) (length t) l ≡ t
   pub within : p + 1 + length t ≤ length l
 
+-- an argument of a list that lies within the cells is such a text
+pub argument-text : {l : List ℕ} {p k q : ℕ} {args : List Bytes} → ArgumentAt l p args k q → p + argumentsPrice args ≤ length l → TextAt l q (getD args k [])
+argument-text x h = record { counted = x .counted; bytes = x .bytes; within = omega (arith, x .within) }
+
 -- what the code has for what was found
 abbrev pub namedOf : Found → Named
 namedOf missing = Unknown
@@ -46,11 +51,6 @@ namedOf (found k c) = namedAs c
 pub data Own : Found → Type 0 where
   unknown : Own missing
   known : (k : ℕ) (b : BuiltIn) → Own (found k (builtIn b))
-
--- an answer that refuses with an outcome
-pub record Refusing (a : Answer) (k : ℕ) : Type 0 where
-  pub outcome : a .outcome ≡ k
-  pub fails : eqb k Outcomes.finished ≡ false
 
 -- Names --------------------------------------------------------------------------------------------------------------
 
@@ -120,6 +120,6 @@ pub calculate-is : (op : Operation) {l : List ℕ} {first second : ℕ} {t₁ t�
     → calculate op l first second ≡ answerOf (calculated op t₁ t₂)
 calculate-is op h₁ o₁ h₂ o₂ = rw (operandAt-is h₁ o₁, operandAt-is h₂ o₂)
 
--- a refusal is answered by its outcome, which is not that of a run that finishes
-pub answer-refused : (op : Operation) (t₁ t₂ : Bytes) {k : ℕ} → calculated op t₁ t₂ ≡ refused k → Refusing (answerOf (refused k)) k
-answer-refused op t₁ t₂ {k} e = record { outcome = refl; fails = rw e at (refusal-fails op (operand t₁) (operand t₂)) }
+-- the outcome of a refusal is not that of a run that finishes
+pub answer-refused : (op : Operation) (t₁ t₂ : Bytes) {k : ℕ} → calculated op t₁ t₂ ≡ refused k → eqb k Outcomes.finished ≡ false
+answer-refused op t₁ t₂ e = rw e at (refusal-fails op (operand t₁) (operand t₂))

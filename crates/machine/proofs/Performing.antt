@@ -41,7 +41,7 @@ use Rattle.machine.proofs.Represents.{Simulates, goes, outputSize}
 use Rattle.machine.proofs.Finds.{HoldsItems, Defines, DefinitionAt, definition-at, ArgumentAt, argument-at, argument-past, Newest, absent, present, newest-finds, isRead-finds}
 use Rattle.machine.proofs.Fetching.{block-low, each}
 use Rattle.machine.proofs.Altering.{alter, alterItems, alter-append, alter-width, alter-count, alterLaid, alterLefts, alterCalls, alterBodies, alterValid, Spot, spotOf, stored, alterDefinitions, alterSize, alterHigh, alterLow}
-use Rattle.machine.proofs.Naming.{TextAt, namedOf, Own, unknown, known, builtIns-only, builtInNamed-is, calculate-is, answer-refused}
+use Rattle.machine.proofs.Naming.{TextAt, argument-text, namedOf, Own, unknown, known, builtIns-only, builtInNamed-is, calculate-is, answer-refused}
 use Rattle.machine.proofs.Words.{compare-is, Picked, nothing, picked, chosen-at}
 use Rattle.machine.proofs.Applying.{Applied, listOf}
 use Rattle.machine.proofs.Calling.{argumentsAt, linksIs, rightTo, toAbove, freed, releaseIs, oldest-items, begun, movedIs}
@@ -126,9 +126,7 @@ module _ {n : ℕ} {whole start : List ℕ} {r : Run} {l o : List ℕ} {s : Stat
   argumentNot k h = argument-past l name list (drop (r .calls .left + 1) l) k (argumentsAt a) priced h
 
   textIs : (k : ℕ) → k < length list → TextAt l (argument l name k) (parameter k list)
-  textIs k h =
-      let x = argumentIs k h in
-      record { counted = x .counted; bytes = x .bytes; within = omega (arith, x .within, a .leftIs, a .room, a .lies .stands .right, a .lies .stands .size) }
+  textIs k h = argument-text (argumentIs k h) (omega (arith, a .leftIs, a .room, a .lies .stands .right, a .lies .stands .size))
 
   there : (k : ℕ) → k < length list → eqb (argument l name k) nowhere ≡ false
   there k h =
@@ -163,24 +161,31 @@ module _ {n : ℕ} {whole start : List ℕ} {r : Run} {l o : List ℕ} {s : Stat
 
   -- Results ----------------------------------------------------------------------------------------------------------
 
+  -- bytes that stand in a source are given: from one to the call around, from the other to the output
+  sourceSim : (v : Bytes) (from : ℕ) (inner outer : List ℕ) → from + length v ≤ length inner → block from (length v) inner ≡ v
+      → from + length v ≤ length outer → block from (length v) outer ≡ v
+      → Simulates n builtIns whole start
+      (M.placing (M.give r (length v) (lent l o))
+      (cond (M.isOuter r l) (lent l (copied from (r .counts .written) (length v) outer o)) (lent (copied from (r .calls .call) (length v) inner l) o)))
+      (S.perform (limitsOf n (length start)) (gives v) c cs s)
+  sourceSim v from inner outer fits is fits₂ is₂ =
+      giveSim builtIns-free a v (copied from (r .calls .call) (length v) inner l) (copied from (r .counts .written) (length v) outer o)
+      (λ e. copied-in from (r .calls .call) (length v) inner l fits (omega (arith, a .lies .stands .size, a .inUse, a .leftIs, a .room, a .lies .stands .right)) ∙ ap (λ (y : List ℕ). placed (r .calls .call) y l) is)
+      (λ e. copied-in from (r .counts .written) (length v) outer o fits₂ (omega (arith, outputSize (a .lies), a .lies .wrote .written)) ∙ ap (λ (y : List ℕ). placed (r .counts .written) y o) is₂)
+
   -- a block of cells gives the bytes that stand in it, also where these lie in the list that goes
   blockSim : (from : ℕ) (v : Bytes) → from + length v ≤ n → block from (length v) l ≡ v → Octets v
       → Simulates n builtIns whole start (M.giveBlock r from (length v) (lent l o)) (S.perform (limitsOf n (length start)) (gives v) c cs s)
   blockSim from v fit is vo =
-      giveSim builtIns-free a v (moved from (r .calls .call) (length v) l) (copied from (r .counts .written) (length v) (lowBytes l) o)
-      (λ e. moved-in from (r .calls .call) (length v) l (omega (arith, a .lies .stands .size)) (omega (arith, a .lies .stands .size, a .inUse, a .leftIs, a .room, a .lies .stands .right)) ∙ ap (λ (y : List ℕ). placed (r .calls .call) y l) is)
-      (λ e. copied-in from (r .counts .written) (length v) (lowBytes l) o (omega (arith, a .lies .stands .size, length-lowBytes l)) (omega (arith, outputSize (a .lies), a .lies .wrote .written)) ∙ ap (λ (y : List ℕ). placed (r .counts .written) y o) (block-low from v l is vo))
+      sourceSim v from l (lowBytes l) (omega (arith, a .lies .stands .size)) is (omega (arith, a .lies .stands .size, length-lowBytes l)) (block-low from v l is vo)
 
   -- a decimal gives the text that it holds
   decimalSim : (bs : Bytes) → length bs ≤ 11
       → Simulates n builtIns whole start (M.giveDecimal r (decimalOf bs) (lent l o)) (S.perform (limitsOf n (length start)) (gives bs) c cs s)
   decimalSim bs short =
-      let bytes = filled 11 bs in
       let size = filled-length 11 bs in
       let is = filled-text 11 bs short in
-      giveSim builtIns-free a bs (copied 0 (r .calls .call) (length bs) bytes l) (copied 0 (r .counts .written) (length bs) bytes o)
-      (λ q. copied-in 0 (r .calls .call) (length bs) bytes l (omega arith) (omega (arith, a .lies .stands .size, a .inUse, a .leftIs, a .room, a .lies .stands .right)) ∙ ap (λ (y : List ℕ). placed (r .calls .call) y l) is)
-      (λ q. copied-in 0 (r .counts .written) (length bs) bytes o (omega arith) (omega (arith, outputSize (a .lies), a .lies .wrote .written)) ∙ ap (λ (y : List ℕ). placed (r .counts .written) y o) is)
+      sourceSim bs 0 (filled 11 bs) (filled 11 bs) (omega arith) is (omega arith) is
 
   -- VAL --------------------------------------------------------------------------------------------------------------
 
@@ -356,7 +361,7 @@ module _ {n : ℕ} {whole start : List ℕ} {r : Run} {l o : List ℕ} {s : Stat
     where
       go : (R : Result) → calculated op (parameter 1 list) (parameter 2 list) ≡ R
           → Simulates n builtIns whole start (M.giveAnswer r (answerOf R) (lent l o)) (S.perform (limitsOf n (length start)) (resultOf R) c cs s)
-      go (refused k) e = let x = answer-refused op (parameter 1 list) (parameter 2 list) e in rw (x .fails) (refusing builtIns-free a k)
+      go (refused k) e = rw (answer-refused op (parameter 1 list) (parameter 2 list) e) (refusing builtIns-free a k)
       go (number z) e =
           decimalSim (shortest z) (at-most-eleven z (result-in-range op (parameter 1 list) (parameter 2 list) z e))
 

@@ -16,7 +16,7 @@ use Rattle.language.specs.Charge.{argumentsPrice}
 use Rattle.machine.specs.Walks.{nowhere, mark, argument, isOne, chosenFrom, compare}
 use Rattle.machine.specs.Items.{encodeArguments}
 use Rattle.machine.proofs.Finds.{first-of, argument-at, argument-past}
-use Rattle.machine.proofs.Naming.{TextAt, same-is}
+use Rattle.machine.proofs.Naming.{TextAt, argument-text, same-is}
 
 -- What is shown ------------------------------------------------------------------------------------------------------
 
@@ -89,8 +89,8 @@ chosen-at (suc t) l p (a ∷ x ∷ y ∷ more) rest e small sized enough h =
     let g = first-of l (p + (length a + 1)) x (y ∷ more) (mark ∷ rest) (f .behind) in
     let q₁ = argument-at l p (a ∷ x ∷ y ∷ more) rest 1 e (omega arith) (omega arith) in
     let q₂ = argument-at l p (a ∷ x ∷ y ∷ more) rest 2 e (omega arith) (omega arith) in
-    let first : TextAt l (argument l p 1) x = record { counted = q₁ .counted; bytes = q₁ .bytes; within = omega (arith, q₁ .within) } in
-    let second : TextAt l (argument l p 2) y = record { counted = q₂ .counted; bytes = q₂ .bytes; within = omega (arith, q₂ .within) } in
+    let first : TextAt l (argument l p 1) x = argument-text q₁ (omega arith) in
+    let second : TextAt l (argument l p 2) y = argument-text q₂ (omega arith) in
     let at : argument l p 2 ≡ p + (length a + 1) + (length x + 1) = omega (arith, q₂ .place) in
     let below : argument l p 2 < nowhere = omega (arith, q₂ .within) in
     let r = chosen-at t l (argument l p 2) (y ∷ more) rest (ap (λ (j : ℕ). drop j l) at ∙ g .behind) (omega arith) sized (omega arith) (omega arith) in

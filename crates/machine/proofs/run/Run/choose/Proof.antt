@@ -1,7 +1,6 @@
 -- The argument that was chosen is given, or nothing.
+use borrow.Author.Tests.{eq-eqb, ne-eqb}
 use borrow.Author.Needs.{needs}
-use Rattle.language.specs.Expansion.{lent}
-use Rattle.machine.proofs.Leaves.{chose, chose-nothing}
 use Rattle.machine.proofs.run.Run.choose.Statement.{statement}
 use Rattle.machine.proofs.run.Run.choose.Tie as tie
 
@@ -20,9 +19,8 @@ same-length-2 c = search needs
 returns : tie.Need-returns
 returns c =
     let b = c .before .before .before .before in
-    let n = b .before .before .before .before in
-    let a = n .before .before .before .before .args in
-    chose-nothing (a .self) (a .name) (lent (a .cells .now) (a .output .now)) (n .chosen .ensures .0) (b .before .before .before .if1 .taken) (b .give-block .ensures)
+    let t = b .before .before .before in
+    rw (← t .before .chosen .ensures .0, eq-eqb _ _ (t .if1 .taken)) (b .give-block .ensures)
 
 read-requires : tie.Need-read-requires
 read-requires c κs = search needs
@@ -46,9 +44,7 @@ returns-2 : tie.Need-returns-2
 returns-2 c =
     let b = c .before .before .before .before in
     let t = b .before .before .before .before .before in
-    let n = t .before in
-    let a = n .before .before .before .before .args in
-    chose (a .self) (a .name) (lent (a .cells .now) (a .output .now)) (n .chosen .ensures .0) (t .if1 .left) (b .before .before .before .read .ensures) (b .give-block2 .ensures)
+    rw (← t .before .chosen .ensures .0, ne-eqb _ _ (t .if1 .left), ← b .before .before .before .read .ensures) (b .give-block2 .ensures)
 
 pub choose-spec : {M : Type 1} → statement M
 choose-spec =

@@ -1,7 +1,7 @@
 -- Each built-in is carried out on the arguments that it needs.
 use borrow.Author.Needs.{needs}
 use Rattle.language.specs.Expansion.{lent}
-use Rattle.machine.proofs.Leaves.{calculates, compares, measures}
+use Rattle.machine.proofs.Leaves.{calculates, compares}
 use Rattle.machine.proofs.run.Run.perform.Statement.{statement}
 use Rattle.machine.proofs.run.Run.perform.Tie as tie
 
@@ -132,9 +132,7 @@ returns-6 c =
     let g = c .before .before .before .before in
     let x = g .before .before .before in
     let t = x .before .before in
-    let a₁ = t .before .before .before .before in
-    let a = a₁ .before .before .before .before .args in
-    measures (a .self) (a .name) (lent (a .cells .now) (a .output .now)) (t .enum-told5 .given .1) (a₁ .argument .ensures .0) (x .read .ensures) (g .give-count2 .ensures)
+    rw (t .enum-told5 .given .1, ← t .before .before .before .before .argument .ensures .0, ← x .read .ensures) (g .give-count2 .ensures)
 
 same-length-11 : tie.Need-same-length-11
 same-length-11 c = search needs
