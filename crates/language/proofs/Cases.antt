@@ -63,7 +63,6 @@ shared =
     -- names and parameters
     ("15, the beginning of a name", "$DEF,kk,v;$k;", "", report 15 13 0 13 13 1) ∷
     ("15, a name and more", "$DEF,k,v;$kk;", "", report 15 13 0 13 13 1) ∷
-    ("the empty name", "$DEF,,e;$;", "e", report 0 10 1 13 11 1) ∷
     ("an empty value and an empty parameter", "$DEF,e,;$UPDATE,e,;$DEF,k,<[~1]>;$VAL,e;$e;$k,;", "[]", report 0 47 2 53 24 2) ∷
     ("~0 and ~9", "$DEF,k,<~0~9>;$k,1,2,3,4,5,6,7,8,9;", "k9", report 0 35 2 39 33 1) ∷
     ("a script defines VAL", "$DEF,VAL,<v~1>;$VAL,VAL;", "vVAL", report 0 24 4 28 22 1) ∷
@@ -316,10 +315,10 @@ passing test b (suc n) = let r = passing test (suc b) n in cond (test b) (b ∷ 
 pub numbers-that-finish : passing Outcomes.finishes 0 100 ≡ 0 ∷ 1 ∷ []
 numbers-that-finish = refl
 
-pub numbers-of-faults : passing Outcomes.faultOfText 0 100 ≡ 10 ∷ 11 ∷ 12 ∷ 13 ∷ 14 ∷ 15 ∷ 16 ∷ 17 ∷ 18 ∷ 19 ∷ 20 ∷ 21 ∷ 22 ∷ 23 ∷ 24 ∷ []
+pub numbers-of-faults : passing Outcomes.faultOfText 0 100 ≡ 10 ∷ 11 ∷ 12 ∷ 13 ∷ 14 ∷ 15 ∷ 16 ∷ 17 ∷ 18 ∷ 19 ∷ 20 ∷ 21 ∷ 22 ∷ 23 ∷ 24 ∷ 33 ∷ []
 numbers-of-faults = refl
 
-pub numbers-of-ends : passing Outcomes.endOfText 0 100 ≡ 0 ∷ 1 ∷ 10 ∷ 11 ∷ 12 ∷ 13 ∷ 14 ∷ 15 ∷ 16 ∷ 17 ∷ 18 ∷ 19 ∷ 20 ∷ 21 ∷ 22 ∷ 23 ∷ 24 ∷ []
+pub numbers-of-ends : passing Outcomes.endOfText 0 100 ≡ 0 ∷ 1 ∷ 10 ∷ 11 ∷ 12 ∷ 13 ∷ 14 ∷ 15 ∷ 16 ∷ 17 ∷ 18 ∷ 19 ∷ 20 ∷ 21 ∷ 22 ∷ 23 ∷ 24 ∷ 33 ∷ []
 numbers-of-ends = refl
 
 -- What is lent --------------------------------------------------------------------------------------------------------------

@@ -19,6 +19,7 @@ use Rattle.language.specs.Charge.{openPrice, endPrice, argumentsPrice, l
 use Rattle.language.specs.Ends.{End}
 use Rattle.language.specs.Scanning.{State, Standing, Call, Body, Step, next, Limits, callsBelow}
 use Rattle.language.specs.Scanning as S
+use Rattle.language.proofs.Lists.{by-definition}
 use Rattle.language.proofs.Prices.{arguments-last, price-split, price-without, price-altered, length-altered, length-oldest, length-without}
 use Rattle.language.proofs.Leads.{Leads, goesOn, ended, chargingLeads, writingLeads, scansLead}
 
@@ -119,7 +120,7 @@ resultAllowed list ds (number z) = tt
 resultAllowed list ds (refused outcome) = tt
 
 performedAllowed : (busy : List ℕ) (list : List Bytes) (ds : List Definition) (b : BuiltIn) → needs b < length list → Allowed list ds (performed busy list ds b)
-performedAllowed busy list ds Def h = omega (arith, threeCost list h)
+performedAllowed busy list ds Def h = by-definition (Allowed list ds) (parameter 1 list) (parameter 2 list) tt (omega (arith, threeCost list h))
 performedAllowed busy list ds Val h = valueAllowed list ds (newest (parameter 1 list) ds)
 performedAllowed busy list ds Update h = updateAllowed list ds busy (parameter 2 list) (newest (parameter 1 list) ds)
 performedAllowed busy list ds (Arithmetic op) h = resultAllowed list ds (calculated op (parameter 1 list) (parameter 2 list))

@@ -8,6 +8,7 @@ pub mod Agree
 pub mod Depth
 pub mod Quotes
 pub mod Octets
+pub mod Named
 pub mod Limits
 pub mod Letters
 pub mod Demand

@@ -27,7 +27,7 @@ use Rattle.language.specs.Scanning.{Call, Body, Standing, State, Step, n
 use Rattle.language.specs.Scanning.{counting, noting, charge, Limit, unlimited, atMost, allows, Limits, noLimits, listOf, reading, ownCall}
 use Rattle.language.specs.Scanning.{scan, scans, start, endOf, run}
 use Rattle.language.specs.Expansion.{limitsOf}
-use Rattle.language.proofs.Lists.{either}
+use Rattle.language.proofs.Lists.{either, by-definition}
 use Rattle.language.proofs.Leads.{not-end, scans-stop}
 
 -- what a state or an end reports
@@ -154,7 +154,7 @@ arithmetic-sound op (some a) (some b) =
 
 -- those of a built-in
 performed-sound : (js : List ℕ) (list : List Bytes) (ds : List Definition) (b : BuiltIn) → Sound (performed js list ds b)
-performed-sound js list ds Def = tt
+performed-sound js list ds Def = by-definition Sound (parameter 1 list) (parameter 2 list) tt tt
 performed-sound js list ds Val = value-sound (newest (parameter 1 list) ds)
 performed-sound js list ds Update = update-sound js (parameter 2 list) (newest (parameter 1 list) ds)
 performed-sound js list ds (Arithmetic op) = arithmetic-sound op (operand (parameter 1 list)) (operand (parameter 2 list))

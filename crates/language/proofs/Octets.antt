@@ -26,7 +26,7 @@ use Rattle.language.specs.Scanning as S
 use Rattle.language.specs.Matched.{All, empty, with}
 use Rattle.language.specs.Octets.{Octets, CallOctets, BodyOctets, ContentOctets, DefinitionOctets, HoldsOctets, EndsOctets}
 use Rattle.language.proofs.Leads.{Leads, goesOn, ended, chargingLeads, writingLeads, onNext, onStop, scansLead}
-use Rattle.language.proofs.Lists.{either, all-append, all-take, all-drop, all-getD, all-chosen}
+use Rattle.language.proofs.Lists.{either, all-append, all-take, all-drop, all-getD, all-chosen, by-definition, every, all-by}
 
 -- What is shown ------------------------------------------------------------------------------------------------------
 
@@ -118,7 +118,7 @@ result-octets (refused outcome) = tt
 module _ (ks : List ℕ) {list : List Bytes} (P : All Octets list) {ds : List Definition} (D : All DefinitionOctets ds) where
   -- each built-in
   performed-octets : (b : BuiltIn) → DeedOctets (performed ks list ds b)
-  performed-octets Def = (all-getD [] empty P 1, all-getD [] empty P 2)
+  performed-octets Def = by-definition DeedOctets (parameter 1 list) (parameter 2 list) tt (all-getD [] empty P 1, all-getD [] empty P 2)
   performed-octets Val = value-octets (newest (parameter 1 list) ds) (newest-octets (parameter 1 list) D)
   performed-octets Update = update-octets ks (parameter 2 list) (all-getD [] empty P 2) (newest (parameter 1 list) ds)
   performed-octets (Arithmetic op) = result-octets (calculated op (parameter 1 list) (parameter 2 list))
@@ -313,30 +313,20 @@ octets-kept L G s g = from-octets L G s (g .bodies) (g .text) g
 pub octets-start : {t : Bytes} {ds : List Definition} → Octets t → All DefinitionOctets ds → HoldsOctets (S.start t ds)
 octets-start p D = holds p empty empty D empty
 
--- as those are that are not counted and whose names are of bytes,
-unfoldable smallNames : List Definition → Bool
-smallNames [] = true
-smallNames (d ∷ ds) = let r = smallNames ds in cond (ltb (largest (d .name)) 256) r false
+-- as the built-ins are: their names are of bytes,
+abbrev smallBuiltIn : Bytes → Content → Bool
+smallBuiltIn n (macro x) = false
+smallBuiltIn n (builtIn b) = ltb (largest n) 256
 
-uncounted-octets : (ds : List Definition) → live ds ≡ 0 → smallNames ds ≡ true → All DefinitionOctets ds
-unfolding live smallNames
-uncounted-octets [] e h = empty
-uncounted-octets (d ∷ ds) e h = go (ltb (largest (d .name)) 256) refl h (uncounted-octets ds (omega arith))
-  where
-    content : (c : Content) → counts c ≡ 0 → ContentOctets c
-    content (macro x) e = absurd (omega arith)
-    content (builtIn b) e = tt
+small-octets : (n : Bytes) (c : Content) → smallBuiltIn n c ≡ true → Octets n × ContentOctets c
+small-octets n (macro x) h = absurd (true≢false (sym h))
+small-octets n (builtIn b) h = (largest-octets n (ltb-true (largest n) 256 h), tt)
 
-    go : (t : Bool) → ltb (largest (d .name)) 256 ≡ t → cond t (smallNames ds) false ≡ true → (smallNames ds ≡ true → All DefinitionOctets ds) → All DefinitionOctets (d ∷ ds)
-    go true q h older =
-        with (record { name = largest-octets (d .name) (ltb-true (largest (d .name)) 256 q); content = content (d .content) (omega arith) })
-        (older h)
-    go false q h older = absurd (true≢false (sym h))
-
--- the built-ins among them,
 pub built-ins-octets : All DefinitionOctets builtIns
-unfolding live smallNames
-built-ins-octets = uncounted-octets builtIns refl refl
+unfolding every
+built-ins-octets =
+    all-by (λ d. smallBuiltIn (d .name) (d .content))
+    (λ d h. let o = small-octets (d .name) (d .content) h in record { name = o .0; content = o .1 }) builtIns refl
 
 module _ (L : Limits) (G : Language) {t : Bytes} {ds : List Definition} (p : Octets t) (D : All DefinitionOctets ds) (n : ℕ) where
   -- what a run from there comes to

@@ -29,7 +29,7 @@ use Rattle.language.specs.Scanning.{Call, Body, Standing, State, Step, n
 use Rattle.language.specs.Scanning as S
 use Rattle.language.specs.Matched.{depthBy, depthAfter, Matched, All, empty, with, Innermost, CallMatches, BodyMatches, ContentMatches, ValueMatches, depthWritten, QuotesMatch}
 use Rattle.language.proofs.Accepted.{digit-reserved, letter-reserved, accepted-plain}
-use Rattle.language.proofs.Lists.{either, all-append, all-take, all-drop, all-getD, all-chosen}
+use Rattle.language.proofs.Lists.{either, all-append, all-take, all-drop, all-getD, all-chosen, by-definition}
 
 -- Every element ------------------------------------------------------------------------------------------------------
 
@@ -236,7 +236,7 @@ module _ (T : Table) where
 
       -- each built-in
       performed-matches : (b : BuiltIn) → DeedMatches (performed ks list ds b)
-      performed-matches Def = parameter-matches 2
+      performed-matches Def = by-definition DeedMatches (parameter 1 list) (parameter 2 list) refl (parameter-matches 2)
       performed-matches Val = value-matches (newest (parameter 1 list) ds) (newest-matches (parameter 1 list) D)
       performed-matches Update = update-matches ks (parameter 2 list) (parameter-matches 2) (newest (parameter 1 list) ds)
       performed-matches (Arithmetic op) = result-matches op (operand (parameter 1 list)) (operand (parameter 2 list))

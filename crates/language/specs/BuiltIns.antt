@@ -1,4 +1,5 @@
--- Document 01: the built-ins, what each needs, its checks in their order and its result. Document 02, Four: three more.
+-- Document 01: the built-ins, what each needs, its checks in their order and its result. Document 02, Four: three more; Five: a
+-- check of DEF.
 use Prim.Native.Nat.{ℕ}
 use mathlib.Core.Bool.{cond}
 use mathlib.Core.List.{List, [], _∷_}
@@ -57,6 +58,11 @@ pub data Deed : Type 0 where
   alters : ℕ → Bytes → Deed
   faulty : ℕ → Deed
 
+-- DEF. Document 02, Five: "33 .. for an empty name at DEF, after 13 and before anything is defined"
+abbrev pub definitionBy : Bytes → Bytes → Deed
+definitionBy [] v = faulty Outcomes.emptyName
+definitionBy (b ∷ n) v = defines (b ∷ n) v
+
 -- "VAL: 15, 19."
 abbrev pub valueOf : Found → Deed
 valueOf missing = faulty Outcomes.notDefined
@@ -87,7 +93,7 @@ chosen (first ∷ second ∷ pairs) = let r = chosen pairs in cond (same first (
 
 -- a built-in that has its parameters, where the definitions ds stand and the bodies `reading` are being read
 abbrev pub performed : List ℕ → List Bytes → List Definition → BuiltIn → Deed
-performed reading list ds Def = defines (parameter 1 list) (parameter 2 list)
+performed reading list ds Def = definitionBy (parameter 1 list) (parameter 2 list)
 performed reading list ds Val = valueOf (newest (parameter 1 list) ds)
 performed reading list ds Update = updateOf reading (parameter 2 list) (newest (parameter 1 list) ds)
 performed reading list ds (Arithmetic op) = resultOf (calculated op (parameter 1 list) (parameter 2 list))

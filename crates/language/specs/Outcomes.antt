@@ -69,13 +69,17 @@ signNotOneByte = 31
 abbrev pub reservedSign : ℕ
 reservedSign = 32
 
+-- Document 02, Five: a fault of the text
+abbrev pub emptyName : ℕ
+emptyName = 33
+
 -- "A run finishes with 0 or 1"
 abbrev pub finishes : ℕ → Bool
 finishes n = eqb n finished || eqb n finishedAtQuote
 
--- "a fault of the text is an outcome from 10 to 24"
+-- "a fault of the text is an outcome from 10 to 24"; document 02: "10 to 24 .. take in each number so called"
 abbrev pub faultOfText : ℕ → Bool
-faultOfText n = leb 10 n && leb n 24
+faultOfText n = (leb 10 n && leb n 24) || eqb n emptyName
 
 -- the ends that substitution has: the run finishes or meets a fault of the text
 abbrev pub endOfText : ℕ → Bool

@@ -40,3 +40,5 @@ pub const NOT_A_TABLE: u32 = 30;
 pub const SIGN_NOT_ONE_BYTE: u32 = 31;
 
 pub const RESERVED_SIGN: u32 = 32;
+
+pub const EMPTY_NAME: u32 = 33;

@@ -1,11 +1,11 @@
--- DEF: the list goes, and the definition is put before what stood at its `$`.
+-- DEF with a name: the list goes, and the definition is put before what stood at its `$`.
 use Prim.Native.Nat.{ℕ, zero, suc, _+_, _-_, _≤_, _<_}
 use native.Mathlib.Omega.{arith}
 use mathlib.Core.Path.{_≡_, refl, sym, ap, _∙_}
 use mathlib.Core.List.{List, [], _∷_, _++_, append-assoc, append-nil}
 use lib.ListN.{length, take, drop, getD, set, length-append, length-drop, take-append-drop}
 use lib.Seq.{take-append-le, drop-at, take-take, drop-append-le, length-take-le, sets-eq}
-use borrow.Author.Tests.{le-ltb, lt-leb}
+use borrow.Author.Tests.{le-ltb, lt-leb, ne-eqb}
 use Rattle.language.specs.Expansion.{lent}
 use Rattle.language.specs.Signs.{Bytes, cellsLimit}
 use Rattle.language.specs.Definitions.{Definition, oldest, macro}
@@ -136,7 +136,7 @@ module _ {n : ℕ} {older : List Definition} {whole start : List ℕ} {r : Run} 
   abbrev cells : List ℕ
   cells = take (to - size) l ++ tail
 
-  module _ (long : 2 < length list) where
+  module _ (long : 2 < length list) (named : 0 < length name) where
     -- what stood at the `$` lies within the cells
     toWithin : (to ≤ n) × (n ≤ 65536) × (length l ≡ n) × (to + width U ≡ n)
     toWithin = let w = width-append (a .since) U in (omega arith, a .cellsLent, a .lies .stands .size, omega (arith, a .lies .stands .right))
@@ -167,6 +167,7 @@ module _ {n : ℕ} {older : List Definition} {whole start : List ℕ} {r : Run} 
           releaseIs a r 0 o refl refl refl,
           x .counted,
           y .counted,
+          ne-eqb (length name) 0 (λ (e : length name ≡ 0). absurd (omega arith)),
           le-ltb to (size + (r .calls .call + 0)) (omega arith),
           lt-leb cellsLimit (r .counts .live - count (a .since)) (omega (arith, a .lies .stands .live, count-append (a .since) U, count-width U, width-append (a .since) U, toAbove a)),
           putBefore l name value first second to (x .bytes) (y .bytes) (omega arith) (omega arith) (omega arith) (omega arith) (omega arith),
@@ -224,7 +225,7 @@ module _ {n : ℕ} {older : List Definition} {whole start : List ℕ} {r : Run} 
           quotes = a .quotes;
         }
 
-    -- DEF does what the scanning says
+    -- DEF with a name does what the scanning says
     pub defSim : Simulates n older whole start (M.def r first second (lent l o))
         (next (S.withCalls (calls n b (a .under)) (S.withDefinitions (D.defined name value ∷ oldest (b + count U) (s .standing .definitions)) s)))
     defSim = rw defIs (goes refl stands)

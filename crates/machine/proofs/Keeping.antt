@@ -218,12 +218,14 @@ module _ (m : Lent) where
           let second = chosen l name in
           choose (eqb second nowhere) (λ t. placingKept _ _ (giveKept 0)) (λ t. placingKept _ _ (giveKept (getD l second 0)))
 
+      defKept : (name value : ℕ) → Kept n k (r .counts .scans) (M.def r name value m)
+      defKept name value =
+          choose (eqb (getD l name 0) 0) (λ t. ends)
+          (λ t. onwardKept (M.release r 0 m) (λ r₁. M.defineIn r₁ name value (getD l name 0) (getD l value 0) m) (releaseKept r 0 s w)
+          (λ f c. defineKept (M.release r 0 m .run) name value (getD l name 0) (getD l value 0) f c))
+
       performKept : (b : BuiltIn) (name : ℕ) → Kept n k (r .counts .scans) (M.perform r b name m)
-      performKept Def name =
-          let first = argument l name 1 in
-          let second = argument l name 2 in
-          onwardKept (M.release r 0 m) (λ r₁. M.defineIn r₁ first second (getD l first 0) (getD l second 0) m) (releaseKept r 0 s w)
-          (λ f c. defineKept (M.release r 0 m .run) first second (getD l first 0) (getD l second 0) f c)
+      performKept Def name = defKept (argument l name 1) (argument l name 2)
       performKept Val name = valKept (argument l name 1)
       performKept Update name = updateKept (argument l name 1) (argument l name 2)
       performKept (Arithmetic op) name = answerKept (calculate op l (argument l name 1) (argument l name 2))

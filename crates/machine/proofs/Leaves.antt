@@ -14,13 +14,14 @@ use Rattle.decimal.specs.declared.operations.Operation.{Operation}
 use Rattle.decimal.specs.declared.operations.Answer as Arithmetical
 use Rattle.language.specs.declared.built_ins.BuiltIn.{BuiltIn}
 use Rattle.language.specs.declared.built_ins.BuiltIn.the-variants.{Def, Val, Update, Arithmetic, Seq, Size, If}
+use Rattle.language.specs.Outcomes
 use Rattle.language.specs.BuiltIns.{needs}
 use Rattle.language.specs.Expansion.{Lent}
 use Rattle.machine.specs.declared.run.Run.{Run}
 use Rattle.machine.specs.declared.run.Answer.{Answer}
 use Rattle.machine.specs.declared.run.Answer.the-variants.{GoesOn, Ended, Damaged, Refused}
 use Rattle.machine.specs.Walks.{nowhere, headSize, nameLength, valueLength, isNamed, nextPosition, nextList, newestFrom, newest, argument, compare, calculate}
-use Rattle.machine.specs.Machine.{After, Resulting, goes, damaged, goesOn, placing, released, releaseTo, release, defineIn, def, giveBlock, refuseName, val, giveAnswer, giveCount, perform}
+use Rattle.machine.specs.Machine.{After, Resulting, goes, ends, damaged, goesOn, placing, released, releaseTo, release, defineIn, def, giveBlock, refuseName, val, giveAnswer, giveCount, perform}
 use Rattle.machine.proofs.run.Answer.{the-type}
 
 -- an answer of another kind does not go on
@@ -36,14 +37,20 @@ ended Refused h = refl
 pub not-on : (a : Answer) → OneOf (1 ∷ 2 ∷ 3 ∷ []) (tagOf the-type a) → a ≡ GoesOn → ⊥
 not-on a h e = true≢false (ap goesOn (sym e) ∙ ended a h)
 
--- DEF does not go on from what ended
-pub not-defined : (r : Run) (name value : ℕ) (m : Lent) {a : After} → a ≡ release r 0 m → goesOn (a .answer) ≡ false → a ≡ def r name value m
-not-defined r name value m e h = rw (← e, h)
+-- DEF turns an empty name away
+pub nameless : (r : Run) (name value : ℕ) (m : Lent) {a : After} {letters : ℕ} → letters ≡ getD (m .cells) name 0 → letters ≡ 0
+    → a ≡ ends Outcomes.emptyName r m → a ≡ def r name value m
+nameless r name value m n z d = d ∙ rw (← n, z)
+
+-- does not go on from what ended
+pub not-defined : (r : Run) (name value : ℕ) (m : Lent) {a : After} {letters : ℕ} → letters ≡ getD (m .cells) name 0 → (letters ≡ 0 → ⊥)
+    → a ≡ release r 0 m → goesOn (a .answer) ≡ false → a ≡ def r name value m
+not-defined r name value m n z e h = rw (← n, ne-eqb _ _ z, ← e, h)
 
 -- and defines in the rest
-pub defines : (r : Run) (name value : ℕ) (m : Lent) {a b : After} {letters bytes : ℕ} → a ≡ release r 0 m → a .answer ≡ GoesOn
-    → letters ≡ getD (m .cells) name 0 → bytes ≡ getD (m .cells) value 0 → b ≡ defineIn (a .run) name value letters bytes m → b ≡ def r name value m
-defines r name value m e h n v d = d ∙ rw (n, v, ← e, h)
+pub defines : (r : Run) (name value : ℕ) (m : Lent) {a b : After} {letters bytes : ℕ} → letters ≡ getD (m .cells) name 0 → (letters ≡ 0 → ⊥)
+    → bytes ≡ getD (m .cells) value 0 → a ≡ release r 0 m → a .answer ≡ GoesOn → b ≡ defineIn (a .run) name value letters bytes m → b ≡ def r name value m
+defines r name value m n z v e h d = d ∙ rw (← n, v, ne-eqb _ _ z, ← e, h)
 
 -- what is placed is placed where the run goes on
 pub placed-on : {a b : After} (m : Lent) → a ≡ b → a .answer ≡ GoesOn → record { run = a .run; answer = a .answer; lent = m } ≡ placing b m

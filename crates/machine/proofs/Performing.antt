@@ -20,7 +20,7 @@ use Rattle.language.specs.declared.built_ins.BuiltIn.{BuiltIn}
 use Rattle.language.specs.declared.built_ins.BuiltIn.the-variants.{Def, Val, Update, Arithmetic, Seq, Size, If}
 use Rattle.language.specs.Definitions.{macro, builtIn, Definition, Found, found, missing, altered, oldest, among}
 use Rattle.language.specs.Definitions as D
-use Rattle.language.specs.BuiltIns.{builtIns, Deed, reads, gives, alters, faulty, deed, deedOf, performed, valueOf, updateOf, resultOf, compared, parameter, needs}
+use Rattle.language.specs.BuiltIns.{builtIns, Deed, reads, defines, gives, alters, faulty, deed, deedOf, performed, definitionBy, valueOf, updateOf, resultOf, compared, parameter, needs}
 use Rattle.language.specs.BuiltIns as B
 use Rattle.language.specs.Charge.{argumentsPrice}
 use Rattle.language.specs.Matched.{All, empty, with}
@@ -186,6 +186,22 @@ module _ {n : ℕ} {whole start : List ℕ} {r : Run} {l o : List ℕ} {s : Stat
       let size = filled-length 11 bs in
       let is = filled-text 11 bs short in
       sourceSim bs 0 (filled 11 bs) (filled 11 bs) (omega arith) is (omega arith) is
+
+  -- DEF --------------------------------------------------------------------------------------------------------------
+
+  -- "33 .. for an empty name at DEF", or the definition
+  definitionSim : (long : 2 < length list)
+      → Simulates n builtIns whole start (M.def r (argument l name 1) (argument l name 2) (lent l o))
+      (S.perform (limitsOf n (length start)) (definitionBy (parameter 1 list) (parameter 2 list)) c cs s)
+  definitionSim long = go (parameter 1 list) refl
+    where
+      go : (t : Bytes) → parameter 1 list ≡ t
+          → Simulates n builtIns whole start (M.def r (argument l name 1) (argument l name 2) (lent l o))
+          (S.perform (limitsOf n (length start)) (definitionBy t (parameter 2 list)) c cs s)
+      go [] e = rw (textIs 1 (omega arith) .counted ∙ ap length e) (refusing builtIns-free a Outcomes.emptyName)
+      go (x ∷ t) e =
+          subst (λ (u : Bytes). Simulates n builtIns whole start (M.def r (argument l name 1) (argument l name 2) (lent l o)) (S.perform (limitsOf n (length start)) (defines u (parameter 2 list)) c cs s))
+          e (defSim a long (omega (arith, ap length e)))
 
   -- VAL --------------------------------------------------------------------------------------------------------------
 
@@ -407,7 +423,7 @@ module _ {n : ℕ} {whole start : List ℕ} {r : Run} {l o : List ℕ} {s : Stat
   performSim : (bi : BuiltIn) → needs bi < length list
       → Simulates n builtIns whole start (M.perform r bi name (lent l o))
       (S.perform (limitsOf n (length start)) (performed (S.reading (s .bodies)) list (s .standing .definitions) bi) c cs s)
-  performSim Def long = defSim a long
+  performSim Def long = definitionSim long
   performSim Val long = valSim long
   performSim Update long = updateSim long
   performSim (Arithmetic op) long = arithmeticSim op long

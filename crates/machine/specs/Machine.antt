@@ -329,7 +329,7 @@ goesOn Refused = false
 abbrev pub onward : After → (Run → After) → After
 onward a go = let b = go (a .run) in cond (goesOn (a .answer)) b a
 
--- DEF: the list is exchanged for the definition, which is put before `right`
+-- the list is exchanged for the definition, which is put before `right`
 abbrev pub defined : Run → ℕ → Run
 defined r size = withRight (r .right - size) (withCharge (r .charge + size) (withLive (r .counts .live + 1) r))
 
@@ -344,9 +344,12 @@ defineIn r name value letters bytes m =
     (r .right - size) letters bytes)
     m)))
 
+-- DEF: 33, or the definition
 abbrev pub def : Run → ℕ → ℕ → Lent → After
 def r name value m =
-    onward (release r 0 m) (λ r₁. defineIn r₁ name value (getD (m .cells) name 0) (getD (m .cells) value 0) m)
+    let l = m .cells in
+    cond (eqb (getD l name 0) 0) (ends Outcomes.emptyName r m)
+    (onward (release r 0 m) (λ r₁. defineIn r₁ name value (getD l name 0) (getD l value 0) m))
 
 -- A result of so many bytes: it is charged where a call collects it, and counted where it goes to the output; then its call ends.
 abbrev pub isOuter : Run → List ℕ → Bool

@@ -123,12 +123,15 @@ impl Run {
         self
     }
 
-    // DEF: the list is exchanged for the definition.
+    // DEF: 33 for an empty name, "before anything is defined"; else the list is exchanged for the definition.
     fn def(self, name: usize, value: usize, cells: &mut [u32]) -> Stepped
         requires { ⌜ (Marked (length (now cells)) self) × (name ≤ 8589934592) × (value ≤ 8589934592) ⌝ }
         ensures { λ r. ⌜ ((o : List ℕ) → leaves r (lent (now (cells .exit)) o) ≡ def self name value (lent (now (cells .entry)) o)) ⌝ }
     {
         let letters = memory::read(cells, name) as usize;
+        if letters == 0 {
+            return self.ends_with(outcomes::EMPTY_NAME);
+        }
         let bytes = memory::read(cells, value) as usize;
         let st = self.release(0, cells);
         let answer = st.answer;

@@ -1,9 +1,9 @@
--- The definition is put in place once the call has ended.
+-- An empty name is turned away; else the definition is put in place once the call has ended.
 use mathlib.Core.List.{[]}
 use native.Mathlib.Omega.{arith}
 use borrow.Author.Needs.{needs}
 use Rattle.language.specs.Expansion.{lent}
-use Rattle.machine.proofs.Leaves.{ended, not-defined, defines, roomy}
+use Rattle.machine.proofs.Leaves.{ended, nameless, not-defined, defines, roomy}
 use Rattle.machine.proofs.run.Run.def.Statement.{statement}
 use Rattle.machine.proofs.run.Run.def.Tie as tie
 
@@ -12,6 +12,18 @@ read-requires c κs = search needs
 
 cast-letters : tie.Need-cast-letters
 cast-letters c = search needs
+
+ends-with-requires : tie.Need-ends-with-requires
+ends-with-requires c κs = search needs
+
+same-length : tie.Need-same-length
+same-length c = search needs
+
+returns : tie.Need-returns
+returns c =
+    let b = c .before .before in
+    let a = b .before .before .before .args in
+    λ o. nameless (a .self) (a .name) (a .value) (lent (a .cells .now) o) (b .read .ensures) (c .before .if1 .taken) (rw (c .ends-with .ensures))
 
 read-requires-2 : tie.Need-read-requires-2
 read-requires-2 c κs = search needs
@@ -25,31 +37,33 @@ release-requires c κs = search needs
 enum-told : tie.Need-enum-told
 enum-told c = search needs
 
-same-length : tie.Need-same-length
-same-length c = search needs
-
-returns : tie.Need-returns
-returns c =
-    let r = c .before in
-    let a = r .before .before .before .before .before .before .before .args in
-    λ o. not-defined (a .self) (a .name) (a .value) (lent (a .cells .now) o) (r .release .ensures o) (ended (r .release .result .answer) (c .match .keys2))
-
-define-in-requires : tie.Need-define-in-requires
-define-in-requires c κs =
-    let b = c .before .before .before .before in
-    let s = b .before .before .before .before .before .before .before in
-    let w = roomy (s .args .self) _ _ _ _ (lent _ []) (s .pre .0) (b .release .ensures []) (c .before .before .enum-told .given .1) in
-    omega arith
-
 same-length-2 : tie.Need-same-length-2
 same-length-2 c = search needs
 
 returns-2 : tie.Need-returns-2
 returns-2 c =
+    let r = c .before in
+    let n = r .before .before .before .before .before in
+    let a = n .before .before .before .args in
+    λ o. not-defined (a .self) (a .name) (a .value) (lent (a .cells .now) o) (n .read .ensures) (r .before .before .before .before .if1 .left) (r .release .ensures o) (ended (r .release .result .answer) (c .match .keys2))
+
+define-in-requires : tie.Need-define-in-requires
+define-in-requires c κs =
+    let b = c .before .before .before .before in
+    let s = b .before .before .before .before .before .before .before .before in
+    let w = roomy (s .args .self) _ _ _ _ (lent _ []) (s .pre .0) (b .release .ensures []) (c .before .before .enum-told .given .1) in
+    omega arith
+
+same-length-3 : tie.Need-same-length-3
+same-length-3 c = search needs
+
+returns-3 : tie.Need-returns-3
+returns-3 c =
     let t = c .before .before .before .before .before in
     let b = t .before .before in
-    let a = b .before .before .before .before .before .before .before .args in
-    λ o. defines (a .self) (a .name) (a .value) (lent (a .cells .now) o) (b .release .ensures o) (t .enum-told .given .1) (b .before .before .before .before .read .ensures) (b .before .before .read2 .ensures) (c .before .before .define-in .ensures o)
+    let n = b .before .before .before .before .before in
+    let a = n .before .before .before .args in
+    λ o. defines (a .self) (a .name) (a .value) (lent (a .cells .now) o) (n .read .ensures) (b .before .before .before .before .if1 .left) (b .before .before .read2 .ensures) (b .release .ensures o) (t .enum-told .given .1) (c .before .before .define-in .ensures o)
 
 pub def-spec : {M : Type 1} → statement M
 def-spec =
@@ -57,12 +71,15 @@ def-spec =
     (tie.spec
     read-requires
     cast-letters
+    ends-with-requires
+    same-length
+    returns
     read-requires-2
     cast-bytes
     release-requires
     enum-told
-    same-length
-    returns
-    define-in-requires
     same-length-2
-    returns-2)
+    returns-2
+    define-in-requires
+    same-length-3
+    returns-3)

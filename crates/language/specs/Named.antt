@@ -1,0 +1,38 @@
+-- Document 02, Five: "An empty name that is looked up is always 15."
+use Prim.Native.Nat.{ℕ, _<_}
+use mathlib.Core.Path.{_≡_}
+use mathlib.Core.Bool.{true}
+use mathlib.Core.List.{List, [], _∷_}
+use lib.ListN.{length}
+use Rattle.language.specs.Signs.{Bytes, Table, applies, meaning}
+use Rattle.language.specs.declared.built_ins.BuiltIn.the-variants.{Val, Update}
+use Rattle.language.specs.Definitions.{builtIn, Definition, found, newest}
+use Rattle.language.specs.BuiltIns.{parameter}
+use Rattle.language.specs.Scanning.{Call, Body, State, listOf, ownCall}
+use Rattle.language.specs.Matched.{All}
+
+-- no definition of a list has an empty name
+abbrev pub Named : List Definition → Type 0
+Named ds = All (λ d. 0 < length (d .name)) ds
+
+-- a call with this list of name and parameters looks up an empty name where the definitions ds stand: its own, or the one that
+-- it gives to VAL or UPDATE
+pub data LooksUpEmpty (ds : List Definition) (list : List Bytes) : Type 0 where
+  called : parameter 0 list ≡ [] → LooksUpEmpty ds list
+  givenToVal : {k : ℕ} → newest (parameter 0 list) ds ≡ found k (builtIn Val) → 1 < length list → parameter 1 list ≡ [] → LooksUpEmpty ds list
+  givenToUpdate : {k : ℕ} → newest (parameter 0 list) ds ≡ found k (builtIn Update) → 2 < length list → parameter 1 list ≡ [] → LooksUpEmpty ds list
+
+-- the next byte is an unquoted `;`: "Bytes come from the innermost body being read, else from the text."
+pub data ShowsSemicolon (T : Table) (s : State) : Type 0 where
+  inText : {b : ℕ} {t : Bytes} → s .bodies ≡ [] → s .text ≡ b ∷ t → meaning T (s .quotes) b ≡ applies → ShowsSemicolon T s
+  inBody : {B : Body} {Bs : List Body} {b : ℕ} {r : Bytes}
+      → s .bodies ≡ B ∷ Bs → B .rest ≡ b ∷ r → meaning T (s .quotes) b ≡ applies → ShowsSemicolon T s
+
+-- the next scan applies the innermost call, which looks up an empty name
+pub record AppliesEmpty (T : Table) (s : State) : Type 0 where
+  pub call : Call
+  pub around : List Call
+  pub innermost : s .calls ≡ call ∷ around
+  pub own : ownCall s ≡ true
+  pub shown : ShowsSemicolon T s
+  pub looksUp : LooksUpEmpty (s .standing .definitions) (listOf call)
