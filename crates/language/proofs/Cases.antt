@@ -165,6 +165,19 @@ shared =
     ("IF, a first that stands second", "[$IF,a,1,b;][$IF,0,1,0,1;][$IF,1,1;]", "[][][1]", report 0 36 7 37 15 0) ∷
     ("IF, an empty second", "[$IF,1,,1,b;][$IF,0,a,1,;]", "[][]", report 0 26 4 27 14 0) ∷
     ("definitions made in the list of IF go", "$IF,1,a$DEF,m,z;;$m;", "a", report 15 20 1 20 22 0) ∷
+    -- Document 02, Five: no nameless macros
+    ("33", "$DEF,,x;", "", report 33 8 0 8 11 0) ∷
+    ("33, a doubled comma and a stray call", "$DEF,,u,<[up]>;$;", "", report 33 15 0 15 16 0) ∷
+    ("33, a name of empty quotes", "$DEF,<>,x;", "", report 33 10 0 10 11 0) ∷
+    ("33 from an empty result", "$DEF,e,;ab$DEF,$e;,x;", "ab", report 33 21 2 22 19 1) ∷
+    ("33 in a body, from an empty parameter", "$DEF,k,<a$DEF,~1,b;>;$k,;", "a", report 33 25 1 35 34 1) ∷
+    ("33 drops no definition", "$DEF,$DEF,m,z;,x;", "", report 33 17 0 17 20 1) ∷
+    ("13 before 33", "$DEF,;", "", report 13 6 0 6 9 0) ∷
+    ("15 of an empty name", "$;", "", report 15 2 0 2 5 0) ∷
+    ("15 by VAL of an empty name", "$VAL,;", "", report 15 6 0 6 9 0) ∷
+    ("15 by UPDATE of an empty name", "$UPDATE,,x;", "", report 15 11 0 11 14 0) ∷
+    ("a space is a name", "$DEF, ,v;$ ;", "v", report 0 12 1 15 12 1) ∷
+    ("a script defines DEF", "$DEF,DEF,<[~1]>;$DEF,;", "[]", report 0 22 2 27 20 1) ∷
     []
 
 -- scripts with letters in the language before request One
@@ -239,6 +252,9 @@ listAndBody = ("$DEF,mk,<$DEF,~1,z~2;$DEF,o,;>;$mk,m$DEF,n,y;,w$DEF,m,v;;", stan
 abbrev beforeRefusal : Left
 beforeRefusal = ("$DEF,k,ab;$q,$DEF,m,z;;", stands "m" "z" 1 ∷ stands "k" "ab" 2 ∷ [])
 
+abbrev beforeEmptyName : Left
+beforeEmptyName = ("$DEF,k,ab;$DEF,$DEF,m,z;,x;", stands "m" "z" 1 ∷ stands "k" "ab" 2 ∷ [])
+
 abbrev leftBy : Option End → Option (List Definition)
 leftBy none = none
 leftBy (some e) = some (e .definitions)
@@ -249,13 +265,13 @@ LeftByScanning c = ran now (ascii (c .0)) .definitions ≡ c .1 ++ builtIns
 abbrev LeftBySubstitution : Left → Type 0
 LeftBySubstitution c = leftBy (substituted now 100 (ascii (c .0)) builtIns) ≡ some (c .1 ++ builtIns)
 
-pub left-by-scanning : LeftByScanning updated × LeftByScanning listAndBody × LeftByScanning beforeRefusal
+pub left-by-scanning : LeftByScanning updated × LeftByScanning listAndBody × LeftByScanning beforeRefusal × LeftByScanning beforeEmptyName
 unfolding run scan scans same newest altered live among deed argumentsPrice definitionsPrice callsCharge bodiesCharge reading meaning
-left-by-scanning = (refl, refl, refl)
+left-by-scanning = (refl, refl, refl, refl)
 
-pub left-by-substitution : LeftBySubstitution updated × LeftBySubstitution listAndBody × LeftBySubstitution beforeRefusal
+pub left-by-substitution : LeftBySubstitution updated × LeftBySubstitution listAndBody × LeftBySubstitution beforeRefusal × LeftBySubstitution beforeEmptyName
 unfolding substituted eval within same newest altered live among deed argumentsPrice definitionsPrice meaning
-left-by-substitution = (refl, refl, refl)
+left-by-substitution = (refl, refl, refl, refl)
 
 -- A run that starts with a definition: it is charged at once ----------------------------------------------------------------
 
@@ -343,6 +359,8 @@ lending =
     ("4 at a comma", 7, "wxyz", 100, "$DEF,k,v;", "wxyz", report 4 5 0 5 7 0) ∷
     ("4 at `;`", 11, "wxyz", 100, "$DEF,k,v;", "wxyz", report 4 9 0 9 11 0) ∷
     ("4 before 15", 5, "wx", 100, "$j;", "wx", report 4 3 0 3 5 0) ∷
+    ("4 before 33", 10, "wx", 100, "$DEF,,x;", "wx", report 4 8 0 8 10 0) ∷
+    ("33 in the last cell", 11, "wx", 100, "a$DEF,,x;", "ax", report 33 9 1 9 11 0) ∷
     ("15 in the last cell", 6, "wx", 100, "a$j;", "ax", report 15 4 1 4 6 0) ∷
     ("4 at a collected parameter", 27, "wx", 100, "$DEF,k,<$j~1;>;$k,abc;", "wx", report 4 22 0 25 25 1) ∷
     ("4 at a collected result, its `;` allowed", 26, "wx", 100, "$DEF,k,abc;$j,$VAL,k;;", "wx", report 4 21 0 21 24 1) ∷

@@ -2,24 +2,20 @@
 use Prim.Native.Nat.{ℕ, zero, suc, _≤_, _<_, _+_, zero-le}
 use native.Mathlib.Omega.{arith}
 use mathlib.Core.Path.{_≡_, refl, sym, subst}
-use mathlib.Core.Bool.{Bool, true, false, cond}
+use mathlib.Core.Bool.{Bool, true, false}
 use mathlib.Core.List.{List, [], _∷_, _++_}
 use mathlib.Core.Option.{Option, none, some}
 use lib.ListN.{length, length-append}
 use lib.Dec.{ltb}
 use borrow.Author.Tests.{ltb-true, ltb-false}
-use Rattle.decimal.specs.Arithmetic.{Result, number, refused, calculated}
 use Rattle.language.specs.Signs.{Bytes, Language, Meaning, copied, leftOut, opens, separates, applies, fetches, unquotes, meaning}
-use Rattle.language.specs.Outcomes
-use Rattle.language.specs.declared.built_ins.BuiltIn.{BuiltIn}
-use Rattle.language.specs.declared.built_ins.BuiltIn.the-variants.{Def, Val, Update, Arithmetic, Seq, Size, If}
-use Rattle.language.specs.Definitions.{Content, macro, builtIn, Definition, defined, Found, found, missing, newest, same, among, altered, oldest, without}
-use Rattle.language.specs.BuiltIns.{Deed, reads, defines, gives, alters, faulty, deed, deedOf, performed, valueOf, updateOf, resultOf, parameter, needs}
+use Rattle.language.specs.Definitions.{Definition, defined, altered, oldest, without}
+use Rattle.language.specs.BuiltIns.{Deed, reads, defines, gives, alters, faulty, deed, parameter}
 use Rattle.language.specs.Charge.{openPrice, endPrice, argumentsPrice, listPrice, definitionPrice, definitionsPrice}
 use Rattle.language.specs.Ends.{End}
 use Rattle.language.specs.Scanning.{State, Standing, Call, Body, Step, next, Limits, callsBelow}
 use Rattle.language.specs.Scanning as S
-use Rattle.language.proofs.Lists.{by-definition}
+use Rattle.language.proofs.Deeds.{Does, toRead, toDefine, toGive, toAlter, toFail, deed-does}
 use Rattle.language.proofs.Prices.{arguments-last, price-split, price-without, price-altered, length-altered, length-oldest, length-without}
 use Rattle.language.proofs.Leads.{Leads, goesOn, ended, chargingLeads, writingLeads, scansLead}
 
@@ -72,16 +68,6 @@ framesBody (reading a b c d f) h = (c, d, f)
 
 -- 2. What the definitions found and made cost ------------------------------------------------------------------------
 
--- a definition that is found stands
-pub newestStands : (n : Bytes) (ds : List Definition) (k : ℕ) (c : Content) → newest n ds ≡ found k c → k < length ds
-unfolding newest
-newestStands n [] k c e = let z : _≡_ {A = ℕ} 0 1 = cc in absurd (omega arith)
-newestStands n (d ∷ ds) k c e = go (same n (d .name)) e (λ p. newestStands n ds k c p)
-  where
-    go : (t : Bool) → cond t (found (length ds) (d .content)) (newest n ds) ≡ found k c → (newest n ds ≡ found k c → k < length ds) → k < length (d ∷ ds)
-    go true e ih = let p : length ds ≡ k = cc in omega arith
-    go false e ih = omega (arith, ih e)
-
 -- what a deed must keep: a body that is read is that of a standing definition, and a new definition costs no more than the
 -- list that is exchanged for it
 abbrev pub Allowed : List Bytes → List Definition → Deed → Type 0
@@ -99,48 +85,15 @@ threeCost (a ∷ []) h = absurd (omega arith)
 threeCost (a ∷ b ∷ []) h = absurd (omega arith)
 threeCost (a ∷ b ∷ c ∷ more) h = omega arith
 
-valueAllowed : (list : List Bytes) (ds : List Definition) (F : Found) → Allowed list ds (valueOf F)
-valueAllowed list ds missing = tt
-valueAllowed list ds (found k (macro x)) = tt
-valueAllowed list ds (found k (builtIn b)) = tt
-
-updateAllowed : (list : List Bytes) (ds : List Definition) (busy : List ℕ) (w : Bytes) (F : Found) → Allowed list ds (updateOf busy w F)
-updateAllowed list ds busy w missing = tt
-updateAllowed list ds busy w (found k (builtIn b)) = tt
-updateAllowed list ds busy w (found k (macro x)) = go (among k busy) (ltb (x .room) (length w))
-  where
-    go : (a b : Bool) → Allowed list ds (cond a (faulty Outcomes.bodyBeingRead) (cond b (faulty Outcomes.updateTooLong) (alters k w)))
-    go true true = tt
-    go true false = tt
-    go false true = tt
-    go false false = tt
-
-resultAllowed : (list : List Bytes) (ds : List Definition) (r : Result) → Allowed list ds (resultOf r)
-resultAllowed list ds (number z) = tt
-resultAllowed list ds (refused outcome) = tt
-
-performedAllowed : (busy : List ℕ) (list : List Bytes) (ds : List Definition) (b : BuiltIn) → needs b < length list → Allowed list ds (performed busy list ds b)
-performedAllowed busy list ds Def h = by-definition (Allowed list ds) (parameter 1 list) (parameter 2 list) tt (omega (arith, threeCost list h))
-performedAllowed busy list ds Val h = valueAllowed list ds (newest (parameter 1 list) ds)
-performedAllowed busy list ds Update h = updateAllowed list ds busy (parameter 2 list) (newest (parameter 1 list) ds)
-performedAllowed busy list ds (Arithmetic op) h = resultAllowed list ds (calculated op (parameter 1 list) (parameter 2 list))
-performedAllowed busy list ds Seq h = tt
-performedAllowed busy list ds Size h = tt
-performedAllowed busy list ds If h = tt
-
 pub deedAllowed : (busy : List ℕ) (list : List Bytes) (ds : List Definition) → Allowed list ds (deed busy list ds)
-unfolding deed
-deedAllowed busy list ds = go (newest (parameter 0 list) ds) refl
+deedAllowed busy list ds = go (deed-does busy list ds)
   where
-    test : (b : BuiltIn) (t : Bool) → ltb (needs b) (length list) ≡ t
-        → Allowed list ds (cond t (performed busy list ds b) (faulty Outcomes.notSupplied))
-    test b true e = performedAllowed busy list ds b (ltb-true (needs b) (length list) e)
-    test b false e = tt
-
-    go : (F : Found) → newest (parameter 0 list) ds ≡ F → Allowed list ds (deedOf busy list ds F)
-    go missing e = tt
-    go (found k (macro x)) e = newestStands (parameter 0 list) ds k (macro x) e
-    go (found k (builtIn b)) e = test b (ltb (needs b) (length list)) refl
+    go : {D : Deed} → Does list ds D → Allowed list ds D
+    go (toRead stands) = stands
+    go (toDefine long name n v) = rw (n, v) (omega (arith, threeCost list long))
+    go toGive = tt
+    go toAlter = tt
+    go (toFail ofText) = tt
 
 -- 3. The invariant ---------------------------------------------------------------------------------------------------
 

@@ -1,6 +1,7 @@
 pub mod Lists
 pub mod Prices
 pub mod Accepted
+pub mod Deeds
 pub mod Leads
 pub mod Frames
 pub mod Runs
@@ -8,7 +9,7 @@ pub mod Agree
 pub mod Depth
 pub mod Quotes
 pub mod Octets
-pub mod Named
+pub mod Names
 pub mod Limits
 pub mod Letters
 pub mod Demand

@@ -4,22 +4,16 @@ use native.Mathlib.Numerals.{add-one}
 use native.Mathlib.Omega.{arith}
 use native.Mathlib.Nat.{zero-add, suc-add}
 use mathlib.Core.Path.{_≡_, refl, sym, _∙_, ap}
-use mathlib.Core.Bool.{Bool, true, false, cond, not, _&&_}
+use mathlib.Core.Bool.{Bool, true, false, cond, not}
 use mathlib.Core.List.{List, [], _∷_, _++_, append-nil, append-assoc}
 use mathlib.Core.Option.{Option, none, some}
 use lib.ListN.{length, length-append}
 use lib.Dec.{T as So, leb→le, nleb→lt, ltb}
-use lib.IntN.{ℤ}
-use Rattle.decimal.specs.declared.operations.Operation.{Operation}
-use Rattle.decimal.specs.Operand.{operand, inRange}
-use Rattle.decimal.specs.Arithmetic.{Result, divides, isZero, exact, ofOperands}
 use Rattle.language.specs.Signs.{Bytes, Language, Meaning, copied, leftOut, opens, separates, applies, fetches, unquotes, meaning}
 use Rattle.language.specs.Outcomes
 use Rattle.language.specs.Outcomes.{endOfText}
-use Rattle.language.specs.declared.built_ins.BuiltIn.{BuiltIn}
-use Rattle.language.specs.declared.built_ins.BuiltIn.the-variants.{Def, Val, Update, Arithmetic, Seq, Size, If}
-use Rattle.language.specs.Definitions.{macro, builtIn, Definition, Found, found, missing, newest, among}
-use Rattle.language.specs.BuiltIns.{Deed, reads, defines, gives, alters, faulty, deed, deedOf, valueOf, updateOf, resultOf, performed, parameter, needs}
+use Rattle.language.specs.Definitions.{Definition}
+use Rattle.language.specs.BuiltIns.{Deed, reads, defines, gives, alters, faulty, deed, parameter}
 use Rattle.language.specs.Charge.{openPrice, endPrice, definitionsPrice}
 use Rattle.language.specs.Ends.{End}
 use Rattle.language.specs.Scanning as S
@@ -27,7 +21,7 @@ use Rattle.language.specs.Scanning.{Call, Body, Standing, State, Step, n
 use Rattle.language.specs.Scanning.{counting, noting, charge, Limit, unlimited, atMost, allows, Limits, noLimits, listOf, reading, ownCall}
 use Rattle.language.specs.Scanning.{scan, scans, start, endOf, run}
 use Rattle.language.specs.Expansion.{limitsOf}
-use Rattle.language.proofs.Lists.{either, by-definition}
+use Rattle.language.proofs.Deeds.{Does, toRead, toDefine, toGive, toAlter, toFail, deed-does}
 use Rattle.language.proofs.Leads.{not-end, scans-stop}
 
 -- what a state or an end reports
@@ -130,48 +124,16 @@ Sound (gives bs) = Unit
 Sound (alters k v) = Unit
 Sound (faulty n) = So (endOfText n)
 
--- the faults of VAL
-value-sound : (f : Found) → Sound (valueOf f)
-value-sound missing = tt
-value-sound (found k (builtIn b)) = tt
-value-sound (found k (macro x)) = tt
-
--- those of UPDATE
-update-sound : (js : List ℕ) (w : Bytes) (f : Found) → Sound (updateOf js w f)
-update-sound js w missing = tt
-update-sound js w (found k (builtIn b)) = tt
-update-sound js w (found k (macro x)) = either Sound (among k js) tt (either Sound (ltb (x .room) (length w)) tt tt)
-
--- those of arithmetic: 22, 23 and 24
-arithmetic-sound : (op : Operation) (a b : Option ℤ) → Sound (resultOf (ofOperands op a b))
-arithmetic-sound op none b = tt
-arithmetic-sound op (some a) none = tt
-arithmetic-sound op (some a) (some b) =
-    either sound (divides op && isZero b) tt (either sound (inRange (exact op a b)) tt tt)
-  where
-    sound : Result → Type 0
-    sound r = Sound (resultOf r)
-
--- those of a built-in
-performed-sound : (js : List ℕ) (list : List Bytes) (ds : List Definition) (b : BuiltIn) → Sound (performed js list ds b)
-performed-sound js list ds Def = by-definition Sound (parameter 1 list) (parameter 2 list) tt tt
-performed-sound js list ds Val = value-sound (newest (parameter 1 list) ds)
-performed-sound js list ds Update = update-sound js (parameter 2 list) (newest (parameter 1 list) ds)
-performed-sound js list ds (Arithmetic op) = arithmetic-sound op (operand (parameter 1 list)) (operand (parameter 2 list))
-performed-sound js list ds Seq = tt
-performed-sound js list ds Size = tt
-performed-sound js list ds If = tt
-
--- those of a call whose name was looked for
-found-sound : (js : List ℕ) (list : List Bytes) (ds : List Definition) (f : Found) → Sound (deedOf js list ds f)
-found-sound js list ds missing = tt
-found-sound js list ds (found k (macro x)) = tt
-found-sound js list ds (found k (builtIn b)) = either Sound (ltb (needs b) (length list)) (performed-sound js list ds b) tt
-
 -- every fault of an applied call is of the text
 deed-sound : (js : List ℕ) (list : List Bytes) (ds : List Definition) → Sound (deed js list ds)
-unfolding deed
-deed-sound js list ds = found-sound js list ds (newest (parameter 0 list) ds)
+deed-sound js list ds = go (deed-does js list ds)
+  where
+    go : {D : Deed} → Does list ds D → Sound D
+    go (toRead stands) = tt
+    go (toDefine long name n v) = tt
+    go toGive = tt
+    go toAlter = tt
+    go (toFail ofText) = ofText
 
 -- One scan with limits and without -----------------------------------------------------------------------------------
 

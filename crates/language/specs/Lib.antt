@@ -10,6 +10,6 @@ pub mod Substitution
 pub mod Letters
 pub mod Matched
 pub mod Octets
-pub mod Named
+pub mod Names
 pub mod Expansion
 pub mod Demand

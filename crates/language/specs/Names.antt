@@ -1,19 +1,22 @@
 -- Document 02, Five: "An empty name that is looked up is always 15."
-use Prim.Native.Nat.{ℕ, _<_}
+use Prim.Native.Nat.{ℕ, _<_, _+_}
 use mathlib.Core.Path.{_≡_}
-use mathlib.Core.Bool.{true}
+use mathlib.Core.Bool.{true, cond}
 use mathlib.Core.List.{List, [], _∷_}
 use lib.ListN.{length}
 use Rattle.language.specs.Signs.{Bytes, Table, applies, meaning}
+use Rattle.language.specs.Outcomes
 use Rattle.language.specs.declared.built_ins.BuiltIn.the-variants.{Val, Update}
 use Rattle.language.specs.Definitions.{builtIn, Definition, found, newest}
 use Rattle.language.specs.BuiltIns.{parameter}
-use Rattle.language.specs.Scanning.{Call, Body, State, listOf, ownCall}
+use Rattle.language.specs.Charge.{endPrice}
+use Rattle.language.specs.Ends.{End}
+use Rattle.language.specs.Scanning.{Call, Body, State, Step, stop, charge, Limits, allows, listOf, ownCall}
 use Rattle.language.specs.Matched.{All}
 
 -- no definition of a list has an empty name
-abbrev pub Named : List Definition → Type 0
-Named ds = All (λ d. 0 < length (d .name)) ds
+abbrev pub HaveNames : List Definition → Type 0
+HaveNames ds = All (λ d. 0 < length (d .name)) ds
 
 -- a call with this list of name and parameters looks up an empty name where the definitions ds stand: its own, or the one that
 -- it gives to VAL or UPDATE
@@ -36,3 +39,10 @@ pub record AppliesEmpty (T : Table) (s : State) : Type 0 where
   pub own : ownCall s ≡ true
   pub shown : ShowsSemicolon T s
   pub looksUp : LooksUpEmpty (s .standing .definitions) (listOf call)
+
+-- what that scan ends with. "Checks at `;`: .. 4 for its own cell, 15"
+abbrev pub lookupOutcome : Limits → State → ℕ
+lookupOutcome L s = cond (allows (L .cells) (charge s + endPrice)) Outcomes.notDefined Outcomes.noCellsLeft
+
+abbrev pub EndsWith : ℕ → Step → Type 0
+EndsWith n x = (e : End) × (x ≡ stop e) × (e .outcome ≡ n)
