@@ -22,8 +22,8 @@ extern "C" {
 #define GPM_CELLS_LIMIT 65536  /* cells of 32 bits */
 #define GPM_OUTPUT_LIMIT 65536 /* bytes of output */
 
-/* How a run ended. 0 and 1 finish it, 2 to 5 are about what was lent, 10 to 24 are faults of the text, and 30 to 32
- * refuse signs. Below the standard signs stand for those in force. */
+/* How a run ended. 0 and 1 finish it, 2 to 5 are about what was lent, 10 to 24 and 33 are faults of the text, and 30 to
+ * 32 refuse signs. Below the standard signs stand for those in force. */
 enum gpm_outcome {
     GPM_FINISHED = 0,             /* the text ended outside quotes and calls */
     GPM_FINISHED_AT_QUOTE = 1,    /* an unquoted > in the text, no call being collected; the rest is unread */
@@ -48,7 +48,8 @@ enum gpm_outcome {
     GPM_RESULT_OUT_OF_RANGE = 24, /* the result is out of range */
     GPM_NOT_A_TABLE = 30,         /* the signs are not 256 bytes, or one is above 6: all counts 0, nothing touched */
     GPM_SIGN_NOT_ONE_BYTE = 31,   /* a kind from 1 to 6 is that of no byte or of several: the same */
-    GPM_RESERVED_SIGN = 32        /* a letter, a digit, +, - or * is a sign: the same */
+    GPM_RESERVED_SIGN = 32,       /* a letter, a digit, +, - or * is a sign: the same */
+    GPM_EMPTY_NAME = 33           /* DEF of an empty name */
 };
 
 /* The name of 12 before letters stood for parameters, for programs that have it. */
@@ -103,7 +104,7 @@ typedef struct gpm_report {
 /*
  * Expands a text with the standard signs.
  *
- * With outcome 0, 1, 3, 4, 5 or 10 to 24: the first report.written bytes of the output are the text's expansion
+ * With outcome 0, 1, 3, 4, 5, 10 to 24 or 33: the first report.written bytes of the output are the text's expansion
  * so far, the bytes behind them are as they were, and all cells are 0.
  * With outcome 2: nothing is touched.
  * What the cells and the output hold before does not matter. The text is never written.

@@ -169,6 +169,7 @@ shared =
     ("33", "$DEF,,x;", "", report 33 8 0 8 11 0) ∷
     ("33, a doubled comma and a stray call", "$DEF,,u,<[up]>;$;", "", report 33 15 0 15 16 0) ∷
     ("33, a name of empty quotes", "$DEF,<>,x;", "", report 33 10 0 10 11 0) ∷
+    ("33, name and value empty", "$DEF,,;", "", report 33 7 0 7 10 0) ∷
     ("33 from an empty result", "$DEF,e,;ab$DEF,$e;,x;", "ab", report 33 21 2 22 19 1) ∷
     ("33 in a body, from an empty parameter", "$DEF,k,<a$DEF,~1,b;>;$k,;", "a", report 33 25 1 35 34 1) ∷
     ("33 drops no definition", "$DEF,$DEF,m,z;,x;", "", report 33 17 0 17 20 1) ∷

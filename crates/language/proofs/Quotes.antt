@@ -21,7 +21,7 @@ use Rattle.language.specs.Outcomes.{finishes}
 use Rattle.language.specs.Refusals.{isReserved, AcceptedTable}
 use Rattle.language.specs.declared.built_ins.BuiltIn.{BuiltIn}
 use Rattle.language.specs.declared.built_ins.BuiltIn.the-variants.{Def, Val, Update, Arithmetic, Seq, Size, If}
-use Rattle.language.specs.Definitions.{Content, macro, builtIn, Definition, Found, found, missing, same, newest, valued, altered, oldest, without, among, counts, live}
+use Rattle.language.specs.Definitions.{Content, macro, builtIn, Definition, Found, found, missing, same, newest, valued, altered, oldest, without, among, counts}
 use Rattle.language.specs.BuiltIns.{Deed, reads, defines, gives, alters, faulty, builtIns, needs, parameter, valueOf, updateOf, resultOf, performed, deedOf, deed}
 use Rattle.language.specs.Charge.{openPrice, endPrice}
 use Rattle.language.specs.Ends.{End}
@@ -29,7 +29,7 @@ use Rattle.language.specs.Scanning.{Call, Body, Standing, State, Step, n
 use Rattle.language.specs.Scanning as S
 use Rattle.language.specs.Matched.{depthBy, depthAfter, Matched, All, empty, with, Innermost, CallMatches, BodyMatches, ContentMatches, ValueMatches, depthWritten, QuotesMatch}
 use Rattle.language.proofs.Accepted.{digit-reserved, letter-reserved, accepted-plain}
-use Rattle.language.proofs.Lists.{either, all-append, all-take, all-drop, all-getD, all-chosen, by-definition}
+use Rattle.language.proofs.Lists.{either, all-append, all-take, all-drop, all-getD, all-chosen, by-definition, every, all-by}
 
 -- Every element ------------------------------------------------------------------------------------------------------
 
@@ -519,20 +519,16 @@ module _ (L : Limits) (T : Table) (plainly : ReservedPlain T) where
 pub quotes-start : {T : Table} {ds : List Definition} (t : Bytes) → All (ValueMatches T) ds → QuotesMatch T (start t ds)
 quotes-start {T} t D = record { calls = tt; output = matched-empty T; bodies = tt; values = D }
 
--- Definitions that are not counted have no values,
-uncounted-match : (T : Table) (ds : List Definition) → live ds ≡ 0 → All (ValueMatches T) ds
-unfolding live
-uncounted-match T [] e = empty
-uncounted-match T (d ∷ ds) e = with (go (d .content) (omega arith)) (uncounted-match T ds (omega arith))
-  where
-    go : (c : Content) → counts c ≡ 0 → ContentMatches T c
-    go (macro x) e = absurd (omega arith)
-    go (builtIn b) e = tt
+-- What is not counted has no value,
+uncounted-match : (T : Table) (c : Content) → counts c < 1 → ContentMatches T c
+uncounted-match T (macro x) h = absurd (omega arith)
+uncounted-match T (builtIn b) h = tt
 
 -- as the built-ins have none.
 pub built-ins-match : (T : Table) → All (ValueMatches T) builtIns
-unfolding live
-built-ins-match T = uncounted-match T builtIns refl
+unfolding every
+built-ins-match T =
+    all-by (λ d. ltb (counts (d .content)) 1) (λ d h. uncounted-match T (d .content) (ltb-true (counts (d .content)) 1 h)) builtIns refl
 
 module _ (L : Limits) (T : Table) (accepted : AcceptedTable T) where
   -- by the check for 32
