@@ -1,11 +1,12 @@
-//! Scripts with known ends, worked out by hand from document 01 and document 02's requests One to Four, against both
+//! Scripts with known ends, worked out by hand from document 01 and document 02's requests One to Five, against both
 //! halves.
 mod charge_carried;
 mod m6_words;
+mod nameless;
 mod own_signs;
 
 use crate::arithmetic::{reckon, Operation};
-use crate::ends::End;
+use crate::ends::{End, Sort};
 use crate::scanning::{run, run_reading, run_traced, Handled, Lent, Row};
 use crate::signs::{digit, digit_or_letter, Table, LIMIT};
 use crate::substitution::{substitute, Bounds};
@@ -41,6 +42,8 @@ fn traced(script: &str, lent: &Lent, each: &mut dyn FnMut(&Row)) -> End {
 fn end(script: &str) -> End {
     let scanned = run(script.as_bytes(), &Lent::PROGRAM);
     assert_eq!(substituted(script, &BOUNDS).as_ref(), Some(&scanned), "{script}");
+    let report = &scanned.report;
+    assert!(report.is(Sort::Finish) || report.is(Sort::Fault), "{script}");
     scanned
 }
 
@@ -494,7 +497,7 @@ fn built_ins_can_be_hidden() {
         ("$DEF,+,p;$UPDATE,+,q;$+,1,2;", 0, "q"),
         ("$DEF,DEF,;$DEF,k,v;$k;", 15, ""),
         ("$+,1,2,$DEF,+,<~1>;;$+,1,2;", 0, "13"),
-        ("$DEF,,e;$;", 0, "e"),
+        ("$DEF,,e;$;", 33, ""),
     ]);
 }
 

@@ -1,6 +1,30 @@
 //! What a run comes to, in document 01's words.
 use std::fmt;
 
+/// What sort of end an outcome is.
+#[derive(Clone, Copy, Debug, PartialEq, Eq)]
+pub enum Sort {
+    /// "A run finishes with 0 or 1".
+    Finish,
+    /// What is lent is refused before the first scan: its sizes, or its signs by request Two.
+    Refusal,
+    /// What is lent does not suffice. "Outcomes 3, 4 and 5" substitution "does not have".
+    Want,
+    /// "a fault of the text is an outcome from 10 to 24"; request Five has "33, a fault of the text".
+    Fault,
+}
+
+/// The sort of an outcome; none for a number that is no outcome.
+pub fn sort(outcome: u64) -> Option<Sort> {
+    match outcome {
+        0..=1 => Some(Sort::Finish),
+        2 | 30..=32 => Some(Sort::Refusal),
+        3..=5 => Some(Sort::Want),
+        10..=24 | 33 => Some(Sort::Fault),
+        _ => None,
+    }
+}
+
 /// The six numbers that a run reports, in document 01's order.
 #[repr(C)]
 #[derive(Clone, Copy, Debug, PartialEq, Eq)]
@@ -11,6 +35,12 @@ pub struct Report {
     pub scans: u64,
     pub most: u64,
     pub live: u64,
+}
+
+impl Report {
+    pub fn is(&self, sort_of_end: Sort) -> bool {
+        sort(self.outcome) == Some(sort_of_end)
+    }
 }
 
 /// "the six report values in the order above, decimal, single spaces"

@@ -1,5 +1,5 @@
 //! The program `reference`: runs the script on standard input by scanning or by substitution, or shows each scan.
-use reference::ends::End;
+use reference::ends::{End, Sort};
 use reference::scanning::{self, Handled, Lent, Row};
 use reference::signs::{Table, LIMIT};
 use reference::substitution::{self, Bounds};
@@ -84,7 +84,7 @@ fn substitute() -> io::Result<()> {
 
 /// "On 0 or 1 it writes the output to standard output. It always writes one line to standard error".
 fn tell(end: &End) -> io::Result<()> {
-    if end.report.outcome <= 1 {
+    if end.report.is(Sort::Finish) {
         let mut to = io::stdout().lock();
         to.write_all(&end.output)?;
         to.flush()?;

@@ -427,7 +427,7 @@ enum Found {
 /// The `;` scan, its own cell allowed.
 impl Machine<'_> {
     /// What an item of the list names; 15 if nothing. A definition hides a built-in of its name, as "the newest
-    /// definition with that name is taken" and the built-ins are what a run starts with.
+    /// definition with that name is taken" and the built-ins are what a run starts with. None has an empty name.
     fn found(&self, number: usize) -> Result<Found, u64> {
         let name = self.item(number);
         if let Some(index) = self.definitions.iter().rposition(|definition| definition.name == name) {
@@ -475,9 +475,13 @@ impl Machine<'_> {
     }
 
     /// "DEF's list is exchanged for the definition", which is at least six cells cheaper: the list has the cells of
-    /// `$DEF`, two commas and `;` beside name and value. So there is no 4 here and no new highest.
+    /// `$DEF`, two commas and `;` beside name and value. So there is no 4 here and no new highest. Request Five: "33 ...
+    /// for an empty name at DEF, after 13 and before anything is defined".
     fn def(&mut self) -> Scanned {
         let name = self.item(1).to_vec();
+        if name.is_empty() {
+            return Err(33);
+        }
         let value: Rc<[u8]> = Rc::from(self.item(2));
         self.end_built_in();
         self.definitions.push(Definition {
@@ -660,6 +664,24 @@ impl Row<'_> {
             (_, Handled::Byte(byte)) if self.ended() && applies(byte) => machine.calls.last().map(Call::items),
             _ => None,
         }
+    }
+
+    /// The list of the call whose body this scan began, its name first.
+    pub fn begun(&self) -> Option<Vec<&[u8]>> {
+        let body = self.machine.bodies.last();
+        let begun = body.filter(|body| body.applied == self.machine.scans);
+        begun.map(|body| body.call.items())
+    }
+
+    /// Whether what is read next lies in quotes.
+    pub fn in_quotes(&self) -> bool {
+        self.machine.quotes > 0
+    }
+
+    /// How many calls are open, and how many commas have ended arguments of the innermost.
+    pub fn open(&self) -> (usize, usize) {
+        let calls = &self.machine.calls;
+        (calls.len(), calls.last().map_or(0, |call| call.commas.len()))
     }
 
     pub fn output(&self) -> &[u8] {

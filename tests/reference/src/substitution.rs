@@ -344,17 +344,7 @@ impl Handed<'_> {
             return fault(13);
         }
         match built_in {
-            BuiltIn::Def => {
-                self.serial += 1;
-                let value = Value::Text(Rc::from(&list[2][..]));
-                let (name, defined, serial) = (list[1].clone(), list[2].len(), self.serial);
-                Ok(Made::Definition(Definition {
-                    name,
-                    value,
-                    defined,
-                    serial,
-                }))
-            }
+            BuiltIn::Def => self.definition(&list[1], &list[2]),
             BuiltIn::Val => {
                 let found = self.found(&list[1])?;
                 match &self.definitions[found].value {
@@ -371,6 +361,20 @@ impl Handed<'_> {
             BuiltIn::Size => self.result(format!("{}", list[1].len()).as_bytes(), known),
             BuiltIn::If => self.result(chosen(&list[1..]), known),
         }
+    }
+
+    /// DEF's definition, which stands when its list has gone. "DEF is to turn an empty name away": 33, by request Five.
+    fn definition(&mut self, name: &[u8], value: &[u8]) -> Result<Made, Stop> {
+        if name.is_empty() {
+            return fault(33);
+        }
+        self.serial += 1;
+        Ok(Made::Definition(Definition {
+            name: name.to_vec(),
+            value: Value::Text(Rc::from(value)),
+            defined: value.len(),
+            serial: self.serial,
+        }))
     }
 
     /// A result, charged if it is collected; its list is still there. So are the results of request Four.

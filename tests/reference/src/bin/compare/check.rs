@@ -5,19 +5,21 @@ use crate::giving;
 use crate::lending;
 use crate::library;
 use crate::memory::Memory;
+use crate::naming::{self, Names};
 use crate::script::Script;
-use reference::ends::{End, Report};
+use reference::ends::{End, Report, Sort};
 use reference::scanning::{self, Lent};
 use reference::substitution::{substitute, Bounds};
 
-/// What a script's run is lent, and how it ends by scanning, with the ways that `~` and the words from M6 went and the
-/// course of the charge.
+/// What a script's run is lent, and how it ends by scanning, with the ways that `~`, the words from M6 and empty names
+/// went and the course of the charge.
 pub struct Run {
     pub lent: Lent,
     pub scanned: End,
     pub course: Course,
     fetching: fetching::Ways,
     giving: giving::Ways,
+    names: Names,
 }
 
 /// The ways that a run came to, which are counted.
@@ -25,12 +27,13 @@ pub struct Told {
     pub fetching: fetching::Ways,
     pub charging: charging::Ways,
     pub giving: giving::Ways,
+    pub naming: naming::Ways,
 }
 
 impl Run {
     pub fn new(script: &Script, lent: Lent) -> Run {
         let (mut fetching, mut giving) = (fetching::Ways::default(), giving::Ways::default());
-        let mut course = Course::default();
+        let (mut course, mut names) = (Course::default(), Names::default());
         let scanned = scanning::run_traced(script.checked(), &script.text, &lent, &mut |row| {
             if let Some(way) = fetching::way(row) {
                 fetching[way] = true;
@@ -39,6 +42,7 @@ impl Run {
                 giving[way] = true;
             }
             course.follow(row);
+            names.follow(row);
         });
         Run {
             lent,
@@ -46,6 +50,7 @@ impl Run {
             course,
             fetching,
             giving,
+            names,
         }
     }
 
@@ -55,6 +60,7 @@ impl Run {
             fetching: self.fetching,
             charging: self.course.ways(&self.scanned.report, with_plenty),
             giving: self.giving,
+            naming: self.names.ways(),
         }
     }
 }
@@ -131,7 +137,7 @@ fn left(memory: &Memory, script: &Script, report: &Report) -> Result<(), String>
         memory.output.kept_from(written),
         "the output is changed past the bytes written",
     )?;
-    if matches!(report.outcome, 2 | 30..=32) {
+    if report.is(Sort::Refusal) {
         return hold(
             memory.cells.kept_from(0),
             "cells are changed, though the call is refused",
@@ -149,8 +155,8 @@ fn zero(cells: &[u32]) -> Result<(), String> {
     Err(format!("cell {place} is {}, not zero", cells[place]))
 }
 
-/// Demand 3: the end of substitution wherever what is lent suffices for it, and else 3, 4 or 5. A refused call has no
-/// end by substitution.
+/// Demand 3: the end of substitution, which is a finish or a fault of the text, wherever what is lent suffices for it,
+/// and else 3, 4 or 5. A refused call has no end by substitution.
 fn against_substitution(
     memory: &Memory,
     script: &Script,
@@ -166,6 +172,8 @@ fn against_substitution(
         Ok(Some(end)) if lending::suffices(&run.lent, &end.report) => {
             hold(*report == end.report, "the report is not that of substitution")?;
             hold(wrote(memory, end), "the output is not that of substitution")?;
+            let own = end.report.is(Sort::Finish) || end.report.is(Sort::Fault);
+            hold(own, "substitution has no such outcome")?;
             let same = run.scanned.standing == end.standing;
             hold(
                 same,
@@ -173,7 +181,7 @@ fn against_substitution(
             )
         }
         Ok(_) => hold(
-            !lending::ended(report),
+            report.is(Sort::Want),
             "substitution has no such end within what was lent",
         ),
     }

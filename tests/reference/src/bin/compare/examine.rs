@@ -1,5 +1,5 @@
-//! One script: with plenty, about what it needs, often about a record of its charge, with all that may be lent where
-//! the cells were soon too few, and now and then about the longest that may be lent.
+//! One script: with plenty, about what it needs, often about a record of its charge or with one cell fewer than 33 needs,
+//! with all that may be lent where the cells were soon too few, and now and then about the longest that may be lent.
 use crate::check::{check, substituted, Difference, Run};
 use crate::lending;
 use crate::memory::Memory;
@@ -24,15 +24,18 @@ pub fn runs(script: &Script, random: &mut Random) -> Vec<Run> {
     if !records.is_empty() && random.one_in(4) {
         runs.push(Run::new(script, lending::about_record(&records, &plenty, random)));
     }
+    if need.outcome == 33 && random.one_in(2) {
+        runs.push(Run::new(script, lending::one_cell_short(&need, &plenty)));
+    }
     let soon_too_few = need.outcome == 4 && need.scans < LONG;
     if soon_too_few {
         runs.extend(with_all(script, &plenty, random));
     }
     // Often where the signs are refused, as 2 comes before that, and always where the cells were soon too few.
-    let seldom = match need.outcome {
+    let seldom = match script.checked() {
         _ if soon_too_few => 1,
-        30.. => 8,
-        _ => 250,
+        Err(_) => 8,
+        Ok(_) => 250,
     };
     if random.one_in(seldom) {
         runs.push(Run::new(script, lending::longest(&need, &plenty, random)));

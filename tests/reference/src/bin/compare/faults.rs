@@ -2,13 +2,14 @@
 use crate::built_ins;
 use crate::grower::Place;
 use crate::letters;
+use crate::nameless;
 use crate::numbers;
 use crate::random::Random;
 
-/// The outcomes that a planted piece leads to. 12 and 13 have more pieces than the others, and stand here twice and
-/// thrice.
-pub const PLANTED: [u64; 19] = [
-    1, 10, 11, 12, 12, 13, 13, 13, 14, 15, 16, 17, 18, 19, 20, 21, 22, 23, 24,
+/// The outcomes that a planted piece leads to. 12, 15, 33 and 13 have more pieces than the others, and stand here twice
+/// and thrice.
+pub const PLANTED: [u64; 22] = [
+    1, 10, 11, 12, 12, 13, 13, 13, 14, 15, 15, 16, 17, 18, 19, 20, 21, 22, 23, 24, 33, 33,
 ];
 
 /// A piece for a fault of the text, or for the end at a bare `>`.
@@ -19,19 +20,7 @@ pub fn planted(outcome: u64, place: Place, random: &mut Random) -> Vec<u8> {
         10 | 12 | 14 => in_some_body(outcome, in_body, random),
         11 => text(random.pick(&["$a,~1;", "$~;", "$a$DEF,a,x;~", "$DEF,z,a,~1~2;"])),
         13 => missing(in_body, random),
-        15 => text(random.pick(&[
-            "$zz;",
-            "$VAL,zz;",
-            "$UPDATE,zz,x;",
-            "$DEFF,a,b;",
-            "$<a ;>;",
-            "$k$DEF,kk,;,1;",
-            "$IFF,1,a;",
-            "$If,1,a;",
-            "$SE,a,a;",
-            "$SIZ,a;",
-            "$SIZES,a;",
-        ])),
+        15 => not_defined(random),
         16 => text(random.pick(&["$a>", "$DEF,a,x>y;", "$a,$b,<c>>;"])),
         17 => text(random.pick(&["<", "$a,<", "<<a>", "$DEF,a,<<x>;"])),
         18 => text(random.pick(&["$", "$a,b", "$DEF,k,$a,<c>", "$$"])),
@@ -40,6 +29,7 @@ pub fn planted(outcome: u64, place: Place, random: &mut Random) -> Vec<u8> {
         21 => longer(random),
         22 => not_a_number(random),
         23 => divided_by_zero(random),
+        33 => nameless::refused(random),
         _ => numbers::exceeding(random),
     }
 }
@@ -83,13 +73,36 @@ fn missing(in_body: bool, random: &mut Random) -> Vec<u8> {
         "$DEF,z,<~9>;$z,1,2,3,4,5,6,7,8;",
     ]);
     let built_in = built_ins::any(random);
-    match random.below(6) {
+    match random.below(8) {
         3..=5 if in_body => text(random.pick(&["~9", "~a", "~z"])),
         0 => text(piece),
         5 => letters::one_short(random),
+        6..=7 => nameless::alone(random),
         1..=2 if !built_ins::OF_ONE.contains(&built_in) => format!("${built_in},1;").into_bytes(),
         3 => format!("${built_in}<>;").into_bytes(),
         _ => format!("${built_in};").into_bytes(),
+    }
+}
+
+/// Half of the names are empty.
+fn not_defined(random: &mut Random) -> Vec<u8> {
+    const NAMED: [&str; 11] = [
+        "$zz;",
+        "$VAL,zz;",
+        "$UPDATE,zz,x;",
+        "$DEFF,a,b;",
+        "$<a ;>;",
+        "$k$DEF,kk,;,1;",
+        "$IFF,1,a;",
+        "$If,1,a;",
+        "$SE,a,a;",
+        "$SIZ,a;",
+        "$SIZES,a;",
+    ];
+    if random.one_in(2) {
+        nameless::looked_up(random)
+    } else {
+        text(random.pick(&NAMED))
     }
 }
 

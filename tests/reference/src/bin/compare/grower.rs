@@ -3,13 +3,14 @@
 use crate::faults;
 use crate::letters;
 use crate::m6_words;
+use crate::nameless;
 use crate::numbers;
 use crate::random::Random;
 use crate::recursion;
 
 /// Few and short, so that names are found, defined again and updated. A body calls and updates names that stand before
 /// its own in this list, so that it ends and is not being read when it is updated.
-pub const NAMES: [&str; 11] = ["a", "b", "", "ab", "7", "k", "<>", "a,b", "mk", "\0é", "t"];
+pub const NAMES: [&str; 11] = ["a", "b", " ", "ab", "7", "k", "<>", "a,b", "mk", "\0é", "t"];
 /// The standard signs, with which scripts are grown.
 pub const SIGNS: &[u8; 6] = b"$,;~<>";
 
@@ -67,7 +68,7 @@ pub struct Known {
 type Weights = [usize; 3];
 type Item = fn(&mut Grower, Place);
 
-const ITEMS: [(Weights, Item); 25] = [
+const ITEMS: [(Weights, Item); 27] = [
     ([100, 150, 120], Grower::word),
     ([160, 60, 60], Grower::definition),
     ([260, 150, 220], Grower::call),
@@ -81,6 +82,8 @@ const ITEMS: [(Weights, Item); 25] = [
     ([50, 50, 50], m6_words::chosen),
     ([10, 5, 10], m6_words::branched),
     ([5, 3, 3], m6_words::hidden),
+    ([10, 5, 5], nameless::hidden),
+    ([8, 4, 8], nameless::barely_named),
     ([40, 30, 30], Grower::temporary),
     ([20, 15, 10], Grower::handed),
     ([30, 15, 10], Grower::maker),

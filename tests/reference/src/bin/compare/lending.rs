@@ -1,6 +1,6 @@
 //! What a run is lent: plenty, or sizes about what the script needs, or sizes about the longest that may be lent.
 use crate::random::Random;
-use reference::ends::Report;
+use reference::ends::{Report, Sort};
 use reference::scanning::Lent;
 use reference::substitution::Bounds;
 
@@ -19,7 +19,7 @@ pub fn suffices(lent: &Lent, end: &Report) -> bool {
 
 /// Whether the run stopped for no want of what was lent.
 pub fn ended(report: &Report) -> bool {
-    !(3..=5).contains(&report.outcome)
+    !report.is(Sort::Want)
 }
 
 /// Enough for most scripts; a text that is copied whole ends within it.
@@ -63,6 +63,14 @@ pub fn about_record(records: &[usize], plenty: &Lent, random: &mut Random) -> Le
         _ => records[late] + 1,
     };
     Lent { cells, ..*plenty }
+}
+
+/// One cell fewer than the run with plenty came to; where the charge is highest at its last `;`, 4 comes there.
+pub fn one_cell_short(need: &Report, plenty: &Lent) -> Lent {
+    Lent {
+        cells: (need.most as usize).saturating_sub(1),
+        ..*plenty
+    }
 }
 
 /// All cells and all output that may be lent.

@@ -20,6 +20,8 @@ mod letters;
 mod library;
 mod m6_words;
 mod memory;
+mod nameless;
+mod naming;
 mod noise;
 mod numbers;
 mod own_signs;

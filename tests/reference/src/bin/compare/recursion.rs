@@ -1,7 +1,7 @@
 //! Strachey's conditional, recursion that ends by it, and recursion that does not end.
 use crate::grower::{Grower, Place};
 
-const CHOICES: [&str; 5] = ["a", "b", "7", "no", ""];
+const CHOICES: [&str; 5] = ["a", "b", "7", "no", " "];
 
 /// The choice between two values by a name, as in case i.
 fn chosen(grower: &mut Grower, name: &str, place: Place) {

@@ -4,11 +4,14 @@ use crate::examine::simplest;
 use crate::grower::SIGNS;
 use crate::memory::Memory;
 use crate::script::Script;
-use reference::signs::Table;
+use reference::signs::{Table, PLAIN};
+use std::collections::BTreeSet;
 use std::time::{Duration, Instant};
 
-/// Only a text as short as this is worth trying all pairs of bytes.
+/// Only a text as short as this is worth trying all stretches and all pairs of bytes.
 const SHORT: usize = 100;
+/// Bytes that are put for others, the plainest first.
+const PLAINER: &[u8] = b"a1k";
 /// A long text is not reduced to its shortest, where each run takes milliseconds.
 const TIME: Duration = Duration::from_secs(60);
 
@@ -40,6 +43,19 @@ impl Reduced {
         self.takes(memory, Script::new(self.script.text.clone(), signs))
     }
 
+    fn short(&self) -> bool {
+        self.script.text.len() <= SHORT
+    }
+
+    /// Leaves out pieces of every size, of a short text, and else of ever smaller ones.
+    fn shorter(&mut self, memory: &mut Memory) {
+        let mut size = self.script.text.len();
+        while size > 0 {
+            self.without_pieces(memory, size);
+            size = if self.short() { size - 1 } else { size / 2 };
+        }
+    }
+
     /// Leaves out pieces of one size, wherever a difference remains.
     fn without_pieces(&mut self, memory: &mut Memory, size: usize) {
         let mut place = 0;
@@ -47,7 +63,7 @@ impl Reduced {
             let end = (place + size).min(self.script.text.len());
             let shorter = [&self.script.text[..place], &self.script.text[end..]].concat();
             if !self.takes_text(memory, shorter) {
-                place += size;
+                place += if self.short() { 1 } else { size };
             }
         }
     }
@@ -55,7 +71,7 @@ impl Reduced {
     /// Leaves out two bytes at a time, as a pair of quotes.
     fn without_pairs(&mut self, memory: &mut Memory) {
         let mut first = 0;
-        while first < self.script.text.len() && self.script.text.len() <= SHORT {
+        while first < self.script.text.len() && self.short() {
             let shorter = (first + 1..self.script.text.len()).find(|&second| {
                 let mut text = self.script.text.clone();
                 text.remove(second);
@@ -66,9 +82,27 @@ impl Reduced {
         }
     }
 
+    /// Puts a plainer byte for each word, everywhere at once, if a difference remains. So names are shortened together,
+    /// and to one byte, as DEF turns an empty one away.
+    fn plainer_words(&mut self, memory: &mut Memory) {
+        let table = self.script.checked().clone().unwrap_or(Table::STANDARD);
+        let pieces = pieces(&self.script.text, &table);
+        let words: BTreeSet<Vec<u8>> = pieces
+            .filter(|piece| plain(&table, piece[0]))
+            .map(<[u8]>::to_vec)
+            .collect();
+        for word in words {
+            for byte in PLAINER.chunks(1) {
+                let text = with_another(&self.script.text, &table, &word, byte);
+                if word == byte || self.takes_text(memory, text) {
+                    break;
+                }
+            }
+        }
+    }
+
     /// Puts a plainer byte in each place where a difference remains.
     fn plainer(&mut self, memory: &mut Memory) {
-        const PLAINER: &[u8] = b"a1k";
         for place in 0..self.script.text.len() {
             for &byte in PLAINER {
                 let mut text = self.script.text.clone();
@@ -93,6 +127,7 @@ impl Reduced {
         for (place, &standard) in Table::STANDARD.kinds().iter().enumerate() {
             self.standard_entry(memory, place, standard);
         }
+        self.takes_signs(memory, None);
     }
 
     fn shorter_signs(&mut self, memory: &mut Memory, length: usize) {
@@ -135,6 +170,21 @@ impl Reduced {
     }
 }
 
+fn plain(table: &Table, byte: u8) -> bool {
+    table.kind(byte) == PLAIN
+}
+
+/// The words of a text and the signs between them.
+fn pieces<'a>(text: &'a [u8], table: &'a Table) -> impl Iterator<Item = &'a [u8]> {
+    text.chunk_by(|&left, &right| plain(table, left) && plain(table, right))
+}
+
+/// The text with another word in the place of one, wherever it stands between signs.
+fn with_another(text: &[u8], table: &Table, word: &[u8], other: &[u8]) -> Vec<u8> {
+    let put = |piece| if piece == word { other } else { piece };
+    pieces(text, table).flat_map(put).copied().collect()
+}
+
 pub fn reduce(memory: &mut Memory, script: &Script, difference: Box<Difference>) -> Reduced {
     let mut reduced = Reduced {
         script: script.clone(),
@@ -143,12 +193,9 @@ pub fn reduce(memory: &mut Memory, script: &Script, difference: Box<Difference>)
     };
     loop {
         let length = reduced.script.text.len();
-        let mut size = length;
-        while size > 0 {
-            reduced.without_pieces(memory, size);
-            size /= 2;
-        }
+        reduced.shorter(memory);
         reduced.without_pairs(memory);
+        reduced.plainer_words(memory);
         if reduced.script.text.len() == length {
             break;
         }

@@ -12,7 +12,7 @@ const HEAD: &str = "$DEF,e,;$DEF,i,<~1>;$DEF,d,<~1~1~1~1>;$DEF,p,<x,y>;$DEF,m,<$
                     $DEF,g,<$e,~1$i,~2;,~0;~1>;$DEF,v,<12345678>;$DEF,w,i;$DEF,7,<~1~0>;";
 
 /// Names of definitions that are not called.
-const NAMES: [&str; 5] = ["t", "u", "", "ab", "t"];
+const NAMES: [&str; 5] = ["t", "u", " ", "ab", "t"];
 
 /// Texts of which a part is never the beginning.
 const LONG: [&str; 2] = [

@@ -1,33 +1,36 @@
-//! How often each outcome was come to, each way that `~`, the charge and the words from M6 went, and each row about
-//! signs that are lent.
+//! How often each outcome was come to, each way that `~`, the charge, the words from M6 and empty names went, and each
+//! row about signs that are lent.
 use crate::charging;
 use crate::check::Told;
 use crate::fetching;
 use crate::giving;
+use crate::naming;
 use crate::script::Script;
 use crate::signing::{self, ROWS};
-use reference::ends::Report;
+use reference::ends::{sort, Report};
 
-const OUTCOMES: usize = 33;
+const OUTCOMES: usize = 34;
 /// The ways of `~` are counted in the places after the outcomes, then those of the charge, those of the words from M6,
-/// and then the rows.
+/// those of empty names, and then the rows.
 const FIRST_OF_CHARGE: usize = OUTCOMES + fetching::WAYS.len();
 const FIRST_OF_WORDS: usize = FIRST_OF_CHARGE + charging::WAYS.len();
-const FIRST_ROW: usize = FIRST_OF_WORDS + giving::WAYS.len();
+const FIRST_OF_NAMES: usize = FIRST_OF_WORDS + giving::WAYS.len();
+const FIRST_ROW: usize = FIRST_OF_NAMES + naming::WAYS.len();
 const PLACES: usize = FIRST_ROW + ROWS.len();
 
-/// Each must occur, so that a comparison that never comes to it does not pass. Few texts are so long as to give 2, and
-/// 6 to 9 and 25 to 29 are no outcomes.
+/// Each must occur, so that a comparison that never comes to it does not pass. Few texts are so long as to give 2.
 fn asked(place: usize) -> bool {
-    match place.checked_sub(FIRST_ROW) {
-        Some(row) => ROWS[row].1,
-        None => !matches!(place, 2 | 6..=9 | 25..=29),
+    match place {
+        FIRST_ROW.. => ROWS[place - FIRST_ROW].1,
+        OUTCOMES.. => true,
+        _ => place != 2 && sort(place as u64).is_some(),
     }
 }
 
 fn label(place: usize) -> String {
     match place {
         FIRST_ROW.. => ROWS[place - FIRST_ROW].0.to_string(),
+        FIRST_OF_NAMES.. => naming::WAYS[place - FIRST_OF_NAMES].to_string(),
         FIRST_OF_WORDS.. => giving::WAYS[place - FIRST_OF_WORDS].to_string(),
         FIRST_OF_CHARGE.. => charging::WAYS[place - FIRST_OF_CHARGE].to_string(),
         OUTCOMES.. => fetching::WAYS[place - OUTCOMES].to_string(),
@@ -46,6 +49,7 @@ fn places<'a>(script: &'a Script, report: &'a Report, told: &'a Told) -> impl It
     places_of(&told.fetching, OUTCOMES)
         .chain(places_of(&told.charging, FIRST_OF_CHARGE))
         .chain(places_of(&told.giving, FIRST_OF_WORDS))
+        .chain(places_of(&told.naming, FIRST_OF_NAMES))
         .chain(rows.map(|row| FIRST_ROW + row))
         .chain([report.outcome as usize])
 }
