@@ -96,7 +96,10 @@ module _ (L : Limits) where
     where
       go : (cs : List Call) → Kept (S.applyInnermost L cs s)
       go [] = ended p
-      go (c ∷ cs) = chargingLeads L endPrice s (perform-names (deed (S.reading (s .bodies)) (listOf c) (s .standing .definitions)) c cs (S.noting (S.charge s + endPrice) s) (deed-names (S.reading (s .bodies)) (listOf c) (s .standing .definitions)) p) (ended p)
+      go (c ∷ cs) =
+          let d = deed (S.reading (s .bodies)) (listOf c) (s .standing .definitions) in
+          let named = deed-names (S.reading (s .bodies)) (listOf c) (s .standing .definitions) in
+          chargingLeads L endPrice s (perform-names d c cs (S.noting (S.charge s + endPrice) s) named p) (ended p)
   apply-names false b s p = go (s .bodies)
     where
       go : (Bs : List Body) → Kept (S.applyNone L Bs b s)
@@ -194,7 +197,8 @@ module _ (L : Limits) (G : Language) (t : Bytes) {ds : List Definition} (D : Hav
       go (stop e) (ended p) = p
 
 -- nor an end of substitution.
-pub substituted-names : (G : Language) (t : Bytes) {ds : List Definition} → HaveNames ds → (d : ℕ) (e : End) → substituted G d t ds ≡ some e → HaveNames (e .definitions)
+pub substituted-names : (G : Language) (t : Bytes) {ds : List Definition} → HaveNames ds → (d : ℕ) (e : End) → substituted G d t ds ≡ some e
+    → HaveNames (e .definitions)
 substituted-names G t {ds} D d e p = let r = agreement G t ds e .1 (d, p) in onStop (kept noLimits G t D (r .0)) (r .1)
 
 -- Where no definition has an empty name, none is found by it,
