@@ -19,12 +19,12 @@ use Rattle.language.specs.Outcomes.{endOfText}
 use Rattle.language.specs.declared.built_ins.BuiltIn.{BuiltIn}
 use Rattle.language.specs.declared.built_ins.BuiltIn.the-variants.{Def, Val, Update, Arithmetic, Seq, Size, If}
 use Rattle.language.specs.Definitions.{Content, macro, builtIn, Definition, Found, found, missing, newest, same, among}
-use Rattle.language.specs.BuiltIns.{Deed, reads, defines, gives, alters, faulty, deed, deedOf, performed, definitionBy, valueOf, updateOf, resultOf, parameter, needs}
-use Rattle.language.proofs.Lists.{either}
+use Rattle.language.specs.BuiltIns.{Deed, reads, defines, gives, alters, faulty, deed, deedOf, performed, valueOf, updateOf, resultOf, parameter, needs}
+use Rattle.language.proofs.Lists.{either, by-definition}
 
 pub data Does (list : List Bytes) (ds : List Definition) : Deed → Type 0 where
   toRead : {k : ℕ} {v : Bytes} → k < length ds → Does list ds (reads k v)
-  toDefine : {n v : Bytes} → 2 < length list → 0 < length n → n ≡ parameter 1 list → v ≡ parameter 2 list → Does list ds (defines n v)
+  toDefine : 2 < length list → 0 < length (parameter 1 list) → Does list ds (defines (parameter 1 list) (parameter 2 list))
   toGive : {bs : Bytes} → Does list ds (gives bs)
   toAlter : {k : ℕ} {v : Bytes} → Does list ds (alters k v)
   toFail : {n : ℕ} → So (endOfText n) → Does list ds (faulty n)
@@ -40,11 +40,6 @@ newest-stands n (d ∷ ds) k c e = go (same n (d .name)) e (λ p. newest-stands 
     go false e ih = omega (arith, ih e)
 
 module _ (busy : List ℕ) (list : List Bytes) (ds : List Definition) where
-  -- DEF
-  definition-does : (n : Bytes) → n ≡ parameter 1 list → 2 < length list → Does list ds (definitionBy n (parameter 2 list))
-  definition-does [] e h = toFail tt
-  definition-does (b ∷ n) e h = toDefine {n = b ∷ n} h (omega arith) e refl
-
   -- VAL
   value-does : (f : Found) → Does list ds (valueOf f)
   value-does missing = toFail tt
@@ -68,7 +63,7 @@ module _ (busy : List ℕ) (list : List Bytes) (ds : List Definition) where
 
   -- each built-in that has its parameters
   performed-does : (b : BuiltIn) → needs b < length list → Does list ds (performed busy list ds b)
-  performed-does Def h = definition-does (parameter 1 list) refl h
+  performed-does Def h = by-definition (Does list ds) (parameter 1 list) (parameter 2 list) (toFail tt) (λ name. toDefine h name)
   performed-does Val h = value-does (newest (parameter 1 list) ds)
   performed-does Update h = update-does (parameter 2 list) (newest (parameter 1 list) ds)
   performed-does (Arithmetic op) h = result-does op (operand (parameter 1 list)) (operand (parameter 2 list))

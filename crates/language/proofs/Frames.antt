@@ -90,7 +90,7 @@ deedAllowed busy list ds = go (deed-does busy list ds)
   where
     go : {D : Deed} → Does list ds D → Allowed list ds D
     go (toRead stands) = stands
-    go (toDefine long name n v) = rw (n, v) (omega (arith, threeCost list long))
+    go (toDefine long name) = omega (arith, threeCost list long)
     go toGive = tt
     go toAlter = tt
     go (toFail ofText) = tt

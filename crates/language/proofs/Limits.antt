@@ -130,7 +130,7 @@ deed-sound js list ds = go (deed-does js list ds)
   where
     go : {D : Deed} → Does list ds D → Sound D
     go (toRead stands) = tt
-    go (toDefine long name n v) = tt
+    go (toDefine long name) = tt
     go toGive = tt
     go toAlter = tt
     go (toFail ofText) = ofText

@@ -1,9 +1,10 @@
 -- Laws about a choice and about every element of a list, for all that follows; about the choice of IF, and DEF's check.
-use Prim.Native.Nat.{ℕ, zero, suc}
+use Prim.Native.Nat.{ℕ, zero, suc, _<_}
+use native.Mathlib.Omega.{arith}
 use mathlib.Core.Path.{_≡_, refl, sym}
 use mathlib.Core.Bool.{Bool, true, false, cond, true≢false}
 use mathlib.Core.List.{List, [], _∷_, _++_}
-use lib.ListN.{take, drop, getD}
+use lib.ListN.{length, take, drop, getD}
 use Rattle.language.specs.Signs.{Bytes, ascii}
 use Rattle.language.specs.Definitions.{same}
 use Rattle.language.specs.Outcomes
@@ -61,7 +62,7 @@ all-chosen z empty = z
 all-chosen z (with p empty) = z
 all-chosen {P} z (with {x = first} p (with q ps)) = either P (same first (ascii "1")) q (all-chosen z ps)
 
--- DEF defines or turns an empty name away: what holds of both holds of what it does
-pub by-definition : (P : Deed → Type 0) (n v : Bytes) → P (faulty Outcomes.emptyName) → P (defines n v) → P (definitionBy n v)
+-- DEF turns an empty name away and defines every other: what holds of both holds of what it does
+pub by-definition : (P : Deed → Type 0) (n v : Bytes) → P (faulty Outcomes.emptyName) → (0 < length n → P (defines n v)) → P (definitionBy n v)
 by-definition P [] v p q = p
-by-definition P (b ∷ n) v p q = q
+by-definition P (b ∷ n) v p q = q (omega arith)

@@ -11,8 +11,9 @@ use lib.Dec.{eqb, ltb}
 use borrow.Author.Tests.{lt-ltb, ltb-true}
 use Rattle.language.specs.Signs.{Bytes, Language, Meaning, copied, leftOut, opens, separates, applies, fetches, unquotes, meaning}
 use Rattle.language.specs.Outcomes
+use Rattle.language.specs.declared.built_ins.BuiltIn.the-variants.{Val, Update}
 use Rattle.language.specs.Definitions.{Definition, found, missing, same, newest, altered, oldest}
-use Rattle.language.specs.BuiltIns.{Deed, reads, defines, gives, alters, faulty, builtIns, parameter, deed}
+use Rattle.language.specs.BuiltIns.{Deed, reads, defines, gives, alters, faulty, builtIns, needs, parameter, deed}
 use Rattle.language.specs.Charge.{openPrice, endPrice}
 use Rattle.language.specs.Ends.{End}
 use Rattle.language.specs.Scanning.{Call, Body, State, Step, next, stop, Limits, noLimits, listOf}
@@ -59,7 +60,7 @@ deed-names ks list ds = go (deed-does ks list ds)
   where
     go : {D : Deed} → Does list ds D → DeedNames D
     go (toRead stands) = tt
-    go (toDefine long name n v) = name
+    go (toDefine long name) = name
     go toGive = tt
     go toAlter = tt
     go (toFail ofText) = tt
@@ -216,8 +217,8 @@ pub empty-deed : (ks : List ℕ) {list : List Bytes} {ds : List Definition} → 
     → deed ks list ds ≡ faulty Outcomes.notDefined
 unfolding deed
 empty-deed ks D (called e) = rw (e, empty-missing D)
-empty-deed ks {list} D (givenToVal e h q) = rw (e, lt-ltb 1 (length list) h, q, empty-missing D)
-empty-deed ks {list} D (givenToUpdate e h q) = rw (e, lt-ltb 2 (length list) h, q, empty-missing D)
+empty-deed ks {list} D (givenToVal e h q) = rw (e, lt-ltb (needs Val) (length list) h, q, empty-missing D)
+empty-deed ks {list} D (givenToUpdate e h q) = rw (e, lt-ltb (needs Update) (length list) h, q, empty-missing D)
 
 module _ (L : Limits) (G : Language) where
   -- a `;` that applies the call c

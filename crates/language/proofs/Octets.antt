@@ -118,7 +118,7 @@ result-octets (refused outcome) = tt
 module _ (ks : List ℕ) {list : List Bytes} (P : All Octets list) {ds : List Definition} (D : All DefinitionOctets ds) where
   -- each built-in
   performed-octets : (b : BuiltIn) → DeedOctets (performed ks list ds b)
-  performed-octets Def = by-definition DeedOctets (parameter 1 list) (parameter 2 list) tt (all-getD [] empty P 1, all-getD [] empty P 2)
+  performed-octets Def = by-definition DeedOctets (parameter 1 list) (parameter 2 list) tt (λ name. (all-getD [] empty P 1, all-getD [] empty P 2))
   performed-octets Val = value-octets (newest (parameter 1 list) ds) (newest-octets (parameter 1 list) D)
   performed-octets Update = update-octets ks (parameter 2 list) (all-getD [] empty P 2) (newest (parameter 1 list) ds)
   performed-octets (Arithmetic op) = result-octets (calculated op (parameter 1 list) (parameter 2 list))

@@ -236,7 +236,7 @@ module _ (T : Table) where
 
       -- each built-in
       performed-matches : (b : BuiltIn) → DeedMatches (performed ks list ds b)
-      performed-matches Def = by-definition DeedMatches (parameter 1 list) (parameter 2 list) refl (parameter-matches 2)
+      performed-matches Def = by-definition DeedMatches (parameter 1 list) (parameter 2 list) refl (λ name. parameter-matches 2)
       performed-matches Val = value-matches (newest (parameter 1 list) ds) (newest-matches (parameter 1 list) D)
       performed-matches Update = update-matches ks (parameter 2 list) (parameter-matches 2) (newest (parameter 1 list) ds)
       performed-matches (Arithmetic op) = result-matches op (operand (parameter 1 list)) (operand (parameter 2 list))

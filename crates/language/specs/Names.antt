@@ -8,7 +8,7 @@ use Rattle.language.specs.Signs.{Bytes, Table, applies, meaning}
 use Rattle.language.specs.Outcomes
 use Rattle.language.specs.declared.built_ins.BuiltIn.the-variants.{Val, Update}
 use Rattle.language.specs.Definitions.{builtIn, Definition, found, newest}
-use Rattle.language.specs.BuiltIns.{parameter}
+use Rattle.language.specs.BuiltIns.{needs, parameter}
 use Rattle.language.specs.Charge.{endPrice}
 use Rattle.language.specs.Ends.{End}
 use Rattle.language.specs.Scanning.{Call, Body, State, Step, stop, charge, Limits, allows, listOf, ownCall}
@@ -22,8 +22,8 @@ HaveNames ds = All (λ d. 0 < length (d .name)) ds
 -- it gives to VAL or UPDATE
 pub data LooksUpEmpty (ds : List Definition) (list : List Bytes) : Type 0 where
   called : parameter 0 list ≡ [] → LooksUpEmpty ds list
-  givenToVal : {k : ℕ} → newest (parameter 0 list) ds ≡ found k (builtIn Val) → 1 < length list → parameter 1 list ≡ [] → LooksUpEmpty ds list
-  givenToUpdate : {k : ℕ} → newest (parameter 0 list) ds ≡ found k (builtIn Update) → 2 < length list → parameter 1 list ≡ [] → LooksUpEmpty ds list
+  givenToVal : {k : ℕ} → newest (parameter 0 list) ds ≡ found k (builtIn Val) → needs Val < length list → parameter 1 list ≡ [] → LooksUpEmpty ds list
+  givenToUpdate : {k : ℕ} → newest (parameter 0 list) ds ≡ found k (builtIn Update) → needs Update < length list → parameter 1 list ≡ [] → LooksUpEmpty ds list
 
 -- the next byte is an unquoted `;`: "Bytes come from the innermost body being read, else from the text."
 pub data ShowsSemicolon (T : Table) (s : State) : Type 0 where
