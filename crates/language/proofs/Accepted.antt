@@ -4,18 +4,20 @@ use native.Mathlib.Omega.{arith}
 use mathlib.Core.Path.{_≡_, refl, sym, ap, subst, _∙_}
 use mathlib.Core.Logic.{_↔_}
 use mathlib.Core.Bool.{Bool, true, false, true≢false, cond, not, _&&_, _||_, or-false}
+use mathlib.Core.List.{List}
 use mathlib.Core.Option.{Option, none, some}
 use lib.ListN.{length, getD}
 use lib.Dec.{eqb, leb, ltb}
 use borrow.Author.Tests.{ltb-true, ltb-false, eqb-true, eqb-false, not-false, le-leb, lt-leb, le-ltb, eq-eqb, ne-eqb}
 use Rattle.language.specs.Signs.{Table, plain, signOfKind, signOf, standard}
 use Rattle.language.specs.Outcomes
-use Rattle.language.specs.Refusals.{refusedBy, someBelow, countBelow, isAbove, notATable, hasKind, notOneByte, signNotOneByte, isReserved, isReservedSign, reservedSign, sizesTooLarge, signRefusals, lentRefusals, AcceptedTable}
+use Rattle.language.specs.Matched.{All, empty, with}
+use Rattle.language.specs.Refusals.{Refusal, refusedBy, someBelow, countBelow, isAbove, notATable, hasKind, notOneByte, signNotOneByte, isReserved, isReservedSign, reservedSign, sizesTooLarge, signRefusals, lentRefusals, AcceptedTable}
 
 -- Tests of the numbers below a bound -----------------------------------------------------------------------------------
 
 -- a number below n + 1 is n, or below n
-below-suc : (P : ℕ → Type 0) (n k : ℕ) → k < suc n → P n → (k < n → P k) → P k
+pub below-suc : (P : ℕ → Type 0) (n k : ℕ) → k < suc n → P n → (k < n → P k) → P k
 below-suc P n k h here more = go (eqb k n) refl
   where
     go : (t : Bool) → eqb k n ≡ t → P k
@@ -209,9 +211,19 @@ pub record IsTable (T : Table) : Type 0 where
   pub reserved : (b : ℕ) → isReserved b ≡ true → getD T b 0 ≡ 0
 
 -- where a call is not refused no check holds
-refused-none : (k : ℕ) (t : Bool) (r : Option ℕ) → cond t (some k) r ≡ none → (t ≡ false) × (r ≡ none)
+pub refused-none : (k : ℕ) (t : Bool) (r : Option ℕ) → cond t (some k) r ≡ none → (t ≡ false) × (r ≡ none)
 refused-none k true r e = let z : _≡_ {A = ℕ} 0 1 = cc in absurd (omega arith)
 refused-none k false r e = (refl, e)
+
+-- what holds of all numbers of the checks holds of the one that a call is refused with
+pub refused-with : (P : ℕ → Type 0) {k : ℕ} {l : List Refusal} → All (λ r. P (r .outcome)) l → refusedBy l ≡ some k → P k
+unfolding refusedBy
+refused-with P empty e = let z : _≡_ {A = ℕ} 0 1 = cc in absurd (omega arith)
+refused-with P {k} (with {x = r} {xs = more} p ps) e = go (r .holds) e (refused-with P ps)
+  where
+    go : (t : Bool) → cond t (some (r .outcome)) (refusedBy more) ≡ some k → (refusedBy more ≡ some k → P k) → P k
+    go true q rest = let h : r .outcome ≡ k = cc in subst P h p
+    go false q rest = rest q
 
 -- what is no 30 has 256 entries
 pub table-size : (T : Table) → notATable T ≡ false → length T ≡ 256

@@ -2,20 +2,20 @@
 use Prim.Native.Nat.{ℕ, _≤_}
 use native.Mathlib.Omega.{arith}
 use mathlib.Core.Path.{_≡_, refl, sym, ap, subst}
-use mathlib.Core.Bool.{Bool, true, false, cond, not}
-use mathlib.Core.List.{List}
+use mathlib.Core.Bool.{not}
 use mathlib.Core.Option.{Option, none, some}
 use lib.ListN.{length}
 use lib.Dec.{T as So, T-not}
 use Rattle.language.specs.Signs.{Language, language}
 use Rattle.language.specs.Outcomes.{endOfText}
-use Rattle.language.specs.Refusals.{Refusal, refusedBy}
+use Rattle.language.specs.Refusals.{refusedBy}
 use Rattle.language.specs.BuiltIns.{builtIns}
 use Rattle.language.specs.Charge.{definitionsPrice}
 use Rattle.language.specs.Ends.{End, reported}
 use Rattle.language.specs.Matched.{All, empty, with}
 use Rattle.language.specs.Expansion.{Given, refusals, returnedBy, answered, ending, expanded}
 use Rattle.language.specs.Demand.{Affords, Demand3, Substitutes}
+use Rattle.language.proofs.Accepted.{refused-with}
 use Rattle.language.proofs.Agree.{agreement}
 use Rattle.language.proofs.Limits.{within-lent, ended-alike, fitting-run, unlimited-ends}
 
@@ -50,21 +50,11 @@ pub builtIns-free : definitionsPrice builtIns ≡ 0
 unfolding definitionsPrice
 builtIns-free = refl
 
--- a refusal whose number is no end of the text
-abbrev NoEnd : Refusal → Type 0
-NoEnd r = So (not (endOfText (r .outcome)))
+-- no number of a refusal is an end of the text
+abbrev NoEnd : ℕ → Type 0
+NoEnd k = So (not (endOfText k))
 
--- by such refusals no call ends as a text does
-refused-no-end : (k : ℕ) {l : List Refusal} → All NoEnd l → refusedBy l ≡ some k → So (endOfText k) → ⊥
-unfolding refusedBy
-refused-no-end k empty e x = let z : _≡_ {A = ℕ} 0 1 = cc in absurd (omega arith)
-refused-no-end k (with {x = r} {xs = more} n others) e x = go (r .holds) e (λ p. refused-no-end k others p x)
-  where
-    go : (t : Bool) → cond t (some (r .outcome)) (refusedBy more) ≡ some k → (refusedBy more ≡ some k → ⊥) → ⊥
-    go true p rest = let q : r .outcome ≡ k = cc in T-not (endOfText k) (subst (λ (j : ℕ). So (not (endOfText j))) q n) x
-    go false p rest = rest p
-
-refusals-no-ends : (g : Given) → All NoEnd (refusals g)
+refusals-no-ends : (g : Given) → All (λ r. NoEnd (r .outcome)) (refusals g)
 refusals-no-ends g = with tt (with tt (with tt (with tt empty)))
 
 -- Demand 3 of a whole run, from definitions that the cells afford: its report and what it leaves in the output
@@ -80,7 +70,7 @@ substitutes g price = go (refusedBy (refusals g)) refl
 
     go : (r : Option ℕ) → refusedBy (refusals g) ≡ r → Substitutes g (answered r g)
     go (some k) h = record {
-      only = λ x. absurd (refused-no-end k (refusals-no-ends g) h x);
+      only = λ x. absurd (T-not (endOfText k) (refused-with NoEnd (refusals-no-ends g) h) x);
       always = λ p. let z : _≡_ {A = ℕ} 0 1 = cc in absurd (omega arith);
     }
     go none h = record {

@@ -48,6 +48,11 @@ octets-drop k p = all-drop k p
 pub at-octets : {bs : Bytes} → Octets bs → (k : ℕ) → getD bs k 0 < 256
 at-octets p k = all-getD 0 (omega arith) p k
 
+-- and a string is of bytes where the one at each place is a byte
+pub octets-of : (bs : Bytes) → ((k : ℕ) → getD bs k 0 < 256) → Octets bs
+octets-of [] h = empty
+octets-of (b ∷ bs) h = with (h 0) (octets-of bs (λ k. h (suc k)))
+
 -- a string of digits and minus signs
 decimal-octets : (bs : Bytes) → Each OfDecimal bs → Octets bs
 decimal-octets [] p = empty

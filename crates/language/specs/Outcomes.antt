@@ -73,6 +73,10 @@ reservedSign = 32
 abbrev pub emptyName : ℕ
 emptyName = 33
 
+-- Document 02, Six: "34 for none", a refusal of a call
+abbrev pub noScript : ℕ
+noScript = 34
+
 -- "A run finishes with 0 or 1"
 abbrev pub finishes : ℕ → Bool
 finishes n = eqb n finished || eqb n finishedAtQuote

@@ -42,3 +42,5 @@ pub const SIGN_NOT_ONE_BYTE: u32 = 31;
 pub const RESERVED_SIGN: u32 = 32;
 
 pub const EMPTY_NAME: u32 = 33;
+
+pub const NO_SCRIPT: u32 = 34;

@@ -40,11 +40,6 @@ pub block-low : (from : ℕ) (bs l : List ℕ) → block from (length bs) l ≡ 
 block-low from bs l e h =
     ap (take (length bs)) (drop-lowBytes from l) ∙ take-lowBytes (length bs) (drop from l) ∙ ap lowBytes e ∙ lowBytes-of-bytes bs (at-octets h)
 
--- what is below 256 at each place is octets
-pub octetsOf : (l : List ℕ) → ((i : ℕ) → getD l i 0 < 256) → Octets l
-octetsOf [] h = empty
-octetsOf (x ∷ l) h = with (h 0) (octetsOf l (λ i. h (suc i)))
-
 -- an argument of octets is octets
 pub each : (k : ℕ) (list : List Bytes) → All Octets list → Octets (parameter k list)
 each k [] h = empty

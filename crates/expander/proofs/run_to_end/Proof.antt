@@ -1,7 +1,7 @@
 -- What the machine came to from its fresh standing is the end of the run.
 use native.Mathlib.Omega.{arith}
 use borrow.Author.Needs.{needs}
-use Rattle.machine.proofs.Fetching.{octetsOf}
+use Rattle.language.proofs.Octets.{octets-of}
 use Rattle.expander.proofs.Running.{ran}
 use Rattle.expander.proofs.run_to_end.Statement.{statement}
 use Rattle.expander.proofs.run_to_end.Tie as tie
@@ -23,7 +23,7 @@ returns c =
     let b = c .before .before .before .before in
     let b₂ = b .before .before .before in
     let s = b₂ .before .before .before .before in
-    ran _ _ _ _ _ _ (rw (b₂ .new .ensures) at (b .go-on .ensures)) (s .pre) (octetsOf (s .args .text .now) (λ i. b₂ .before .before .before .shared-slice-known .given i .fits))
+    ran _ _ _ _ _ _ (rw (b₂ .new .ensures) at (b .go-on .ensures)) (s .pre) (octets-of (s .args .text .now) (λ i. b₂ .before .before .before .shared-slice-known .given i .fits))
     (omega (arith, s .fits .allowance .fits))
 
 pub run-to-end-spec : {M : Type 1} → statement M
