@@ -2,10 +2,10 @@
  * Vuzhatten: Strachey's General Purpose Macrogenerator in lent memory, for C11 and C++17 on x86-64.
  *
  * One call expands one text: gpm_expand with the standard signs $ , ; ~ < >, gpm_expand_signs with signs of the
- * caller's own. It allocates nothing, keeps nothing between calls and calls nothing of the operating system; calls
- * on memory of their own may run at the same time. It always returns, after at most `allowance` scans. What it
- * reports and leaves is proved, for every text, all signs and all lent memory, where the caller keeps what "The
- * caller" asks below.
+ * caller's own. The other way, gpm_script makes a text that expands to given keys. A call allocates nothing, keeps
+ * nothing between calls and calls nothing of the operating system; calls on memory of their own may run at the same
+ * time. It always returns, one that expands after at most `allowance` scans. What it reports and leaves is proved, for
+ * every text, all signs, all keys and all lent memory, where the caller keeps what "The caller" asks below.
  */
 #ifndef GPM_H
 #define GPM_H
@@ -21,9 +21,10 @@ extern "C" {
 #define GPM_TEXT_LIMIT 65536   /* bytes of text */
 #define GPM_CELLS_LIMIT 65536  /* cells of 32 bits */
 #define GPM_OUTPUT_LIMIT 65536 /* bytes of output */
+#define GPM_WANTED_LIMIT 65534 /* keys wanted of gpm_script: their script has two bytes more */
 
 /* How a run ended. 0 and 1 finish it, 2 to 5 are about what was lent, 10 to 24 and 33 are faults of the text, and 30 to
- * 32 refuse signs. Below the standard signs stand for those in force. */
+ * 32 refuse signs; 34 is gpm_script's alone. Below the standard signs stand for those in force. */
 enum gpm_outcome {
     GPM_FINISHED = 0,             /* the text ended outside quotes and calls */
     GPM_FINISHED_AT_QUOTE = 1,    /* an unquoted > in the text, no call being collected; the rest is unread */
@@ -49,7 +50,8 @@ enum gpm_outcome {
     GPM_NOT_A_TABLE = 30,         /* the signs are not 256 bytes, or one is above 6: all counts 0, nothing touched */
     GPM_SIGN_NOT_ONE_BYTE = 31,   /* a kind from 1 to 6 is that of no byte or of several: the same */
     GPM_RESERVED_SIGN = 32,       /* a letter, a digit, +, - or * is a sign: the same */
-    GPM_EMPTY_NAME = 33           /* DEF of an empty name */
+    GPM_EMPTY_NAME = 33,          /* DEF of an empty name */
+    GPM_NO_SCRIPT = 34            /* no script of any length gives the wanted keys: their quotes do not match */
 };
 
 /* The name of 12 before letters stood for parameters, for programs that have it. */
@@ -128,6 +130,31 @@ gpm_report gpm_expand(const uint8_t *text, size_t text_length, uint32_t *cells, 
 gpm_report gpm_expand_signs(const uint8_t *signs, size_t signs_length, const uint8_t *text, size_t text_length,
                             uint32_t *cells, size_t cells_length, uint8_t *output, size_t output_length,
                             uint64_t allowance);
+
+/*
+ * Writes a script for the wanted bytes, with the standard signs: one that expands to exactly these bytes. It is they
+ * inside one pair of quotes.
+ *
+ * The answer is one number, outcome times 4,294,967,296 plus the script's length, which GPM_SCRIPT_OUTCOME and
+ * GPM_SCRIPT_LENGTH take apart. The checks are made in this order, and the first that holds is the outcome, with length 0
+ * and the output untouched:
+ *
+ *   2   wanted over GPM_WANTED_LIMIT, or output over GPM_OUTPUT_LIMIT
+ *   34  no script of any length gives these bytes; that is so exactly where their quotes do not match
+ *   5   output shorter than the script, which has wanted_length + 2 bytes
+ *
+ * With outcome 0 the first GPM_SCRIPT_LENGTH bytes of the output are the script, and those behind them are as they were.
+ * gpm_expand finishes it with outcome 0 and the wanted bytes wherever it is lent wanted_length bytes of output and
+ * wanted_length + 3 scans; no cells are needed. The wanted bytes are never written.
+ *
+ * The caller: wanted and output point to as many bytes as their lengths say, and not to NULL, also where a length is 0;
+ * they do not overlap; nothing else reads or writes the output, or writes the wanted bytes, before the call returns.
+ */
+uint64_t gpm_script(const uint8_t *wanted, size_t wanted_length, uint8_t *output, size_t output_length);
+
+/* The parts of its answer. */
+#define GPM_SCRIPT_OUTCOME(answer) ((uint32_t)((uint64_t)(answer) >> 32))
+#define GPM_SCRIPT_LENGTH(answer) ((size_t)((uint64_t)(answer) & UINT32_MAX))
 
 #ifdef __cplusplus
 }

@@ -47,6 +47,7 @@ static const char *in_words(uint64_t outcome)
     case GPM_SIGN_NOT_ONE_BYTE: return "a sign has no byte or several";
     case GPM_RESERVED_SIGN: return "a letter, a digit, +, - or * is a sign";
     case GPM_EMPTY_NAME: return "DEF of an empty name";
+    case GPM_NO_SCRIPT: return "no script gives the wanted keys";
     }
     return "an outcome that gpm.h does not have";
 }

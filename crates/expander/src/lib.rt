@@ -13,6 +13,7 @@ ghost use Rattle.language.specs.Signs.{standard, cellsLimit};
 ghost use Rattle.language.specs.Refusals.{refusedBy};
 ghost use Rattle.language.specs.Expansion.{lent, refusals, expanded};
 ghost use Rattle.language.specs.Demand.{Expanded};
+ghost use Rattle.keys.specs.Scripts.{asked, Numbered};
 ghost use Rattle.expander.specs.Reports.{given, outcomeOf, reportOf, refusedWith, returned, Ran};
 
 // What a run reports, in document 01's order: for Rattle and for C.
@@ -82,6 +83,17 @@ pub extern "C" fn gpm_expand_signs(
     ensures { λ r. ⌜ Expanded (given (now (signs .entry)) (now (text .entry)) (lent (now (cells .entry)) (now (output .entry))) allowance) (returned r (lent (now (cells .exit)) (now (output .exit)))) ⌝ }
 {
     expand_signs(signs, text, cells, output, allowance)
+}
+
+// For a recorder of keys: a script for the wanted bytes with the standard signs, and the outcome and the script's length in one
+// number.
+#[no_mangle]
+pub extern "C" fn gpm_script(wanted: &[u8], output: &mut [u8]) -> u64
+    ensures { λ r. ⌜ Numbered (asked standard (now (wanted .entry)) (now (output .entry))) r (now (output .exit)) ⌝ }
+{
+    let kinds = language::standard_kinds();
+    let script = keys::script_for(&kinds, wanted, output);
+    script.outcome as u64 * 4294967296 + script.length as u64
 }
 
 // What is measured against the limits.

@@ -1,5 +1,5 @@
 -- Document 02, Six: the script gives the wanted bytes, and where it is refused with 34 no text does.
-use Prim.Native.Nat.{ℕ, zero, suc, _+_, _≤_, _<_}
+use Prim.Native.Nat.{ℕ, zero, suc, _+_, _/_, _%_, _≤_, _<_}
 use native.Mathlib.Omega.{arith}
 use mathlib.Core.Path.{_≡_, refl, sym, ap, subst, _∙_}
 use mathlib.Core.Bool.{Bool, true, false, cond, not, _||_, true≢false}
@@ -31,7 +31,7 @@ use Rattle.language.proofs.Demand.{builtIns-free, demand3}
 use Rattle.language.proofs.Limits.{scans-ended}
 use Rattle.language.proofs.Octets.{octets-append}
 use Rattle.language.proofs.Quotes.{run-matched, built-ins-match}
-use Rattle.keys.specs.Scripts.{Asked, Answered, lastBelow, byteOf, quoteKind, unquoteKind, script, wantedLimit, tooLong, closed, matched, lentRefusals, scriptRefusals, refusals, answeredBy, answered, scriptEnd, scriptGiven, scriptReport, ScriptFits, NoScript, Promised, Scripted}
+use Rattle.keys.specs.Scripts.{Asked, Answered, numberOf, lastBelow, byteOf, quoteKind, unquoteKind, script, wantedLimit, tooLong, closed, matched, lentRefusals, scriptRefusals, refusals, answeredBy, answered, scriptEnd, scriptGiven, scriptReport, ScriptFits, NoScript, Promised, Scripted, Numbered}
 use Rattle.keys.proofs.Quoting.{quoted}
 
 -- The quotes of a table --------------------------------------------------------------------------------------------------
@@ -343,3 +343,20 @@ module _ (g : Asked) where
       or-none : (a b : Bool) → (a || b) ≡ false → a ≡ false
       or-none false b e = refl
       or-none true b e = absurd (true≢false e)
+
+-- The longest script is the longest text.
+pub answer-length : (g : Asked) → answered g .length ≤ textLimit
+unfolding answered
+answer-length g = go (refusedBy (refusals g)) refl
+  where
+    go : (r : Option ℕ) → refusedBy (refusals g) ≡ r → answeredBy r g .length ≤ textLimit
+    go (some k) e = omega arith
+    go none e = omega (arith, script-length (g .table) (g .wanted), taken g e .wanted)
+
+-- So both parts of an answer can be read off its number.
+pub parts-of : (g : Asked) (number : ℕ) (output : Bytes) → Numbered g number output
+    → (number / 4294967296 ≡ answered g .outcome) × (number % 4294967296 ≡ answered g .length)
+parts-of g number output (x, (e, p), n, o) =
+    let few = answer-length g in
+    let n′ : number ≡ numberOf (answered g) = n ∙ ap numberOf e in
+    (omega arith, omega arith)

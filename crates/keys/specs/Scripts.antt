@@ -1,5 +1,5 @@
 -- Document 02, Six: a script for given keys.
-use Prim.Native.Nat.{ℕ, zero, suc, _+_, _≤_}
+use Prim.Native.Nat.{ℕ, zero, suc, _+_, _*_, _≤_}
 use mathlib.Core.Path.{_≡_}
 use mathlib.Core.Bool.{Bool, true, false, cond, _||_, not}
 use mathlib.Core.List.{List, [], _∷_, _++_}
@@ -39,6 +39,10 @@ pub record Answered : Type 0 where
 -- the code's report, and the final content of the output
 abbrev pub answeredIn : ScriptReport → Bytes → Answered
 answeredIn r output = record { outcome = r .outcome; length = r .length; output = output }
+
+-- The recorder "gets back one 64-bit number, outcome × 4,294,967,296 + length"
+abbrev pub numberOf : Answered → ℕ
+numberOf x = x .outcome * 4294967296 + x .length
 
 -- The script -----------------------------------------------------------------------------------------------------------
 
@@ -153,3 +157,7 @@ pub record Promised (g : Asked) (x : Answered) : Type 0 where
 -- What the call gives back: the first check that holds or the script, and what is promised of it.
 abbrev pub Scripted : Asked → Answered → Type 0
 Scripted g x = (x ≡ answered g) × Promised g x
+
+-- The same where the answer is one number.
+abbrev pub Numbered : Asked → ℕ → Bytes → Type 0
+Numbered g number output = (x : Answered) × Scripted g x × (number ≡ numberOf x) × (output ≡ x .output)

@@ -7,19 +7,19 @@ ghost use Prim.Native.Nat.{_+_, _≤_};
 ghost use lib.ListN.{length};
 
 // How many elements lie in front of a lent part and, at least, behind it.
-const MARGIN: usize = 32;
+pub(crate) const MARGIN: usize = 32;
 
 // The most that a trial lends: one more than the expander takes.
 const MOST_CELLS: usize = Sizes::CELLS_LIMIT + 1;
 
-const MOST_OUTPUT: usize = Sizes::OUTPUT_LIMIT + 1;
+pub(crate) const MOST_OUTPUT: usize = Sizes::OUTPUT_LIMIT + 1;
 
 // Far more than the 256 that it takes.
 pub(crate) const MOST_SIGNS: usize = 65536;
 
 const CELLS_ROOM: usize = MOST_CELLS + 2 * MARGIN;
 
-const OUTPUT_ROOM: usize = MOST_OUTPUT + 2 * MARGIN;
+pub(crate) const OUTPUT_ROOM: usize = MOST_OUTPUT + 2 * MARGIN;
 
 const SIGNS_ROOM: usize = MOST_SIGNS + 2 * MARGIN;
 
@@ -142,7 +142,7 @@ fn is_same(a: Report, b: Report) -> bool {
 }
 
 // Whether the output stands at the start of the lent part and all else is as before.
-fn output_is_right(bytes: &[u8], output: &[u8], before: &[u8]) -> bool {
+pub(crate) fn output_is_right(bytes: &[u8], output: &[u8], before: &[u8]) -> bool {
     if bytes.len() != before.len() {
         return false;
     }

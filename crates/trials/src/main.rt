@@ -1,11 +1,13 @@
 // Runs the expander on every row of scripts.tsv and of signs.tsv, and on texts, cells and output of every size about the
-// limits. Writes a line for each run that is wrong and, at the end of each part, how many runs there were.
+// limits; asks for a script for every row of keys.tsv, and for keys and output of every size about theirs. Writes a line for each run that is wrong and, at the end of each part, how many runs there were.
 mod fields;
 mod lending;
 mod pattern;
+mod recording;
 mod rows;
 mod signs;
 mod sizes;
+mod wanted;
 
 use crate::rows::File;
 use libc::STDOUT_FILENO;
@@ -13,9 +15,12 @@ use libc::STDOUT_FILENO;
 fn main() {
     try_file(b"scripts.tsv", File::Scripts, b" rows, ");
     try_file(b"signs.tsv", File::Signs, b" signs, ");
+    try_file(b"keys.tsv", File::Keys, b" keys, ");
     let text = [b'x'; sizes::LONGEST];
     let wrong = sizes::try_all(&text);
     count(sizes::RUNS, b" sizes, ", wrong);
+    let wrong = wanted::try_all(&text);
+    count(wanted::CALLS, b" sizes of keys, ", wrong);
 }
 
 fn try_file(path: &[u8], file: File, name: &[u8]) {

@@ -1,12 +1,13 @@
-// Runs each row of scripts.tsv or of signs.tsv, and writes a line for each that is wrong.
+// Tries each row of scripts.tsv, signs.tsv or keys.tsv, and writes a line for each that is wrong.
 //
-// The first line of a file names its columns: what a row is about, in signs.tsv the signs and how many bytes of their table
-// are lent, and then the columns of a run: the cells, the output and the allowance lent, the script, the six numbers of the
-// report, and the output.
+// The first line of a file names its columns: what a row is about, in signs.tsv and keys.tsv the signs and how many bytes of
+// their table are lent, and then the columns of a run: the cells, the output and the allowance lent, the script, the six
+// numbers of the report, and the output; in keys.tsv the wanted bytes, the output lent, the outcome and the script.
 use crate::fields;
 use crate::lending;
 use crate::lending::Call;
 use crate::lending::Lent;
+use crate::recording;
 use crate::signs;
 use expander::Report;
 use libc::STDOUT_FILENO;
@@ -14,6 +15,7 @@ use libc::STDOUT_FILENO;
 pub(crate) enum File {
     Scripts,
     Signs,
+    Keys,
 }
 
 pub(crate) struct Count {
@@ -41,6 +43,7 @@ fn is_right(row: &[u8], file: File) -> bool {
     let right = match file {
         File::Scripts => script_is_right(row),
         File::Signs => signs_are_right(row),
+        File::Keys => keys_are_right(row),
     };
     if right {
         return true;
@@ -85,4 +88,28 @@ fn run_is_right(call: Call, signs: &[u8], run: &[u8]) -> bool {
     let script = fields::field(run, 3);
     let output = fields::field(run, 10);
     lending::is_right(call, signs, script, lent, report, output)
+}
+
+// By `script_for`, and with the standard signs by the C form too.
+fn keys_are_right(row: &[u8]) -> bool {
+    let table = signs::table(fields::field(row, 1));
+    let len = fields::number(row, 2) as usize;
+    if len > table.len() {
+        return false;
+    }
+    let signs = &table[0..len];
+    let keys = fields::from(row, 3);
+    if !script_is_answered(recording::Call::ScriptFor, signs, keys) {
+        return false;
+    }
+    let kinds = language::standard_kinds();
+    !check::same(signs, &kinds) || script_is_answered(recording::Call::GpmScript, signs, keys)
+}
+
+// Whether the columns of a script for keys are right by a call.
+fn script_is_answered(call: recording::Call, signs: &[u8], keys: &[u8]) -> bool {
+    let wanted = fields::field(keys, 0);
+    let lent = fields::number(keys, 1) as usize;
+    let outcome = fields::number(keys, 2);
+    recording::is_right(call, signs, wanted, lent, outcome, fields::field(keys, 3))
 }
