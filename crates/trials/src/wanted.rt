@@ -4,7 +4,8 @@ use crate::recording::Call;
 use keys::ScriptReport;
 use language::Sizes;
 use libc::STDOUT_FILENO;
-ghost use Prim.Native.Nat.{_≤_};
+ghost use Prim.Native.Nat.{_+_, _≤_};
+ghost use lib.ListN.{length};
 
 pub(crate) const CALLS: usize = 35;
 
@@ -18,6 +19,7 @@ pub(crate) fn try_all(text: &[u8]) -> usize {
         let len = wanted(call / 7);
         let output = lent(call % 7, len);
         if !is_right(text, len, output) {
+            name(len, output);
             wrong += 1;
         }
     }
@@ -52,31 +54,34 @@ fn lent(number: usize, wanted: usize) -> usize
     }
 }
 
-// Whether the call for the first so many bytes and so much output is right. One that is wrong is named.
+// Whether the call for the first so many bytes and so much output is right.
 fn is_right(text: &[u8], len: usize, output: usize) -> bool
     requires { ⌜ len ≤ 65535 ⌝ }
 {
+    if len > text.len() {
+        return false;
+    }
+    let wanted = &text[0..len];
+    let outcome = expected(len, output);
+    if outcome != 0 {
+        return is_answered(wanted, output, outcome, b"");
+    }
     let mut script = [b'x'; ROOM];
+    quote(&mut script, len);
+    is_answered(wanted, output, 0, &script[0..len + 2])
+}
+
+// The quotes of a script for so many bytes.
+fn quote(script: &mut [u8], len: usize)
+    requires { ⌜ len + 2 ≤ length (now script) ⌝ }
+{
     script[0] = b'<';
     script[len + 1] = b'>';
-    let outcome = expected(len, output);
-    let written = if outcome == 0 { len + 2 } else { 0 };
-    if len <= text.len() && written <= script.len() {
-        let kinds = language::standard_kinds();
-        let wanted = &text[0..len];
-        if recording::is_right(
-            Call::GpmScript,
-            &kinds,
-            wanted,
-            output,
-            outcome,
-            &script[0..written],
-        ) {
-            return true;
-        }
-    }
-    name(len, output);
-    false
+}
+
+fn is_answered(wanted: &[u8], output: usize, outcome: u32, script: &[u8]) -> bool {
+    let kinds = language::standard_kinds();
+    recording::is_right(Call::GpmScript, &kinds, wanted, output, outcome, script)
 }
 
 // Plain bytes have a script.
