@@ -39,15 +39,15 @@ fn wanted(number: usize) -> usize
     }
 }
 
-// None, one byte short of the script, its length, one byte more, and about the limit.
+// None, as long as the keys, one byte short of the script, its length, and about the limit.
 fn lent(number: usize, wanted: usize) -> usize
     requires { ⌜ wanted ≤ 65535 ⌝ }
 {
     match number {
         0 => 0,
-        1 => wanted + 1,
-        2 => wanted + 2,
-        3 => wanted + 3,
+        1 => wanted,
+        2 => wanted + 1,
+        3 => wanted + 2,
         4 => Sizes::OUTPUT_LIMIT - 1,
         5 => Sizes::OUTPUT_LIMIT,
         _ => Sizes::OUTPUT_LIMIT + 1,
