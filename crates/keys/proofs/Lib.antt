@@ -1,3 +1,4 @@
 pub mod Matching
 pub mod Quoting
 pub mod Scripts
+pub mod Cases

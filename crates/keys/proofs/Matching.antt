@@ -1,10 +1,10 @@
 -- How far the search for an unmatched quote, and the search for the byte of a kind, have come; and the script in the output.
 use Prim.Native.Nat.{ℕ, zero, suc, _+_, _-_, _≤_, _<_}
 use native.Mathlib.Omega.{arith}
-use mathlib.Core.Path.{_≡_, refl, sym, ap, _∙_}
+use mathlib.Core.Path.{_≡_, refl, ap, _∙_}
 use mathlib.Core.Bool.{Bool, true, false, cond}
-use mathlib.Core.List.{List, [], _∷_, _++_}
-use mathlib.Core.Option.{Option, none, some, bind}
+use mathlib.Core.List.{[], _∷_, _++_}
+use mathlib.Core.Option.{Option, some, bind}
 use lib.ListN.{length, drop, getD, set, drop-of-length-le}
 use lib.Seq.{drop-cons, take-length}
 use lib.Dec.{eqb}
@@ -13,6 +13,7 @@ use Rattle.memory.proofs.Blocks.{copied-in, placed-before, placed-after}
 use Rattle.language.specs.Signs.{Bytes, Table, Sign, plain, dollar, comma, semicolon, tilde, quote, unquote, signOfKind, signOf}
 use Rattle.language.specs.Matched.{depthBy, depthAfter}
 use Rattle.language.specs.Expansion.{overwritten}
+use Rattle.language.proofs.Quotes.{none-some}
 use Rattle.keys.specs.Scripts.{lastBelow, byteOf, quoteKind, unquoteKind, script, closed, matched}
 
 -- Depths ---------------------------------------------------------------------------------------------------------------
@@ -44,7 +45,7 @@ depth-grows comma d k e = let h : d ≡ k = cc in omega arith
 depth-grows semicolon d k e = let h : d ≡ k = cc in omega arith
 depth-grows tilde d k e = let h : d ≡ k = cc in omega arith
 depth-grows quote d k e = let h : suc d ≡ k = cc in omega arith
-depth-grows unquote zero k e = let z : _≡_ {A = ℕ} 0 1 = cc in absurd (omega arith)
+depth-grows unquote zero k e = absurd (none-some e)
 depth-grows unquote (suc d) k e = let h : d ≡ k = cc in omega arith
 
 -- The first `done` of the wanted bytes lead to a depth, and what is read behind them decides.

@@ -10,6 +10,7 @@ use Rattle.language.specs.Definitions.{Definition}
 use Rattle.language.specs.Scanning.{Standing, State, Step, next, stop, noLimits, scan, scans, start}
 use Rattle.language.specs.Scanning as S
 use Rattle.language.specs.Matched.{depthBy, depthAfter, Matched}
+use Rattle.language.proofs.Quotes.{none-some}
 use Rattle.keys.specs.Scripts.{scriptEnd}
 
 -- the standing after bytes of the text were copied to the output, one a scan
@@ -42,9 +43,6 @@ passed w = record { definitions = w .definitions; output = w .output; read = w .
 abbrev inText : ℕ → Bytes → Standing → State
 inText q t w = record { text = t; quotes = q; calls = []; bodies = []; standing = w }
 
-none-some : {A : Type 0} {n : ℕ} → none ≡ some n → A
-none-some e = let z : _≡_ {A = ℕ} 0 1 = cc in absurd (omega arith)
-
 module _ (T : Table) where
   -- one byte inside of quotes is copied, but for the unquote that closes the outermost
   copies : (d k b : ℕ) (t : Bytes) (w : Standing) → depthBy (signOf T b) d ≡ some k
@@ -60,7 +58,7 @@ module _ (T : Table) where
       go semicolon d e = let h : d ≡ k = cc in rw h
       go tilde d e = let h : d ≡ k = cc in rw h
       go quote d e = let h : suc d ≡ k = cc in rw h
-      go unquote zero e = none-some e
+      go unquote zero e = absurd (none-some e)
       go unquote (suc d) e = let h : d ≡ k = cc in rw h
 
   -- so are all that lead from a depth to a depth
@@ -80,7 +78,7 @@ module _ (T : Table) where
       go : (o : Option ℕ) → depthBy (signOf T b) d ≡ o → bind o (λ m. depthAfter T m bs) ≡ some k
           → ((m : ℕ) → depthAfter T m bs ≡ some k → run (length bs + n) (suc m) (bs ++ t) (copiedOn (b ∷ []) w) ≡ run n (suc k) t (copiedOn bs (copiedOn (b ∷ []) w)))
           → run (suc (length bs) + n) (suc d) (b ∷ (bs ++ t)) w ≡ run n (suc k) t (copiedOn (b ∷ bs) w)
-      go none p e more = none-some e
+      go none p e more = absurd (none-some e)
       go (some m) p e more =
           let one : suc (length bs) + n ≡ suc (length bs + n) = omega arith in
           ap (λ (j : ℕ). run j (suc d) (b ∷ (bs ++ t)) w) one

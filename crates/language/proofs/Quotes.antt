@@ -51,7 +51,7 @@ ReservedPlain T = (b : ℕ) → isReserved b ≡ true → signOf T b ≡ plain
 -- Depths -------------------------------------------------------------------------------------------------------------
 
 -- a depth that is lost is no depth
-none-some : {n : ℕ} → none ≡ some n → ⊥
+pub none-some : {n : ℕ} → none ≡ some n → ⊥
 none-some e = let z : _≡_ {A = ℕ} 0 1 = cc in omega arith
 
 -- a test that fails does not pass

@@ -39,7 +39,7 @@ reserved-bytes = refl
 -- Tables accepted and refused ----------------------------------------------------------------------------------------------
 
 -- the standard table with some bytes given other kinds, the first last
-abbrev with : List (ℕ × ℕ) → Table
+abbrev pub with : List (ℕ × ℕ) → Table
 with [] = standard
 with (x ∷ more) = set (with more) (x .0) (x .1)
 

@@ -1,7 +1,7 @@
 -- Each check that does not hold leaves the next one to decide.
 use mathlib.Core.Path.{sym, ap, _∙_}
 use denote.Ref.{now}
-use Rattle.language.specs.Refusals.{refusedBy, refusalIn}
+use Rattle.language.specs.Refusals.{refusalIn}
 use Rattle.language.proofs.Accepted.{accepted-exactly}
 use Rattle.keys.specs.Scripts.{asked}
 use Rattle.keys.proofs.Scripts.{refused-large, refused-signs, refused-own}
