@@ -1,6 +1,7 @@
-//! Scripts with known ends, worked out by hand from document 01 and document 02's requests One to Five, against both
+//! Scripts with known ends, worked out by hand from document 01 and document 02's requests One to Six, against both
 //! halves.
 mod charge_carried;
+mod keys;
 mod m6_words;
 mod nameless;
 mod own_signs;

@@ -4,6 +4,7 @@ pub mod arithmetic;
 #[cfg(test)]
 mod cases;
 pub mod ends;
+pub mod keys;
 pub mod scanning;
 pub mod signs;
 pub mod substitution;

@@ -1,12 +1,15 @@
-//! The program `reference`: runs the script on standard input by scanning or by substitution, or shows each scan.
+//! The program `reference`: runs the script on standard input by scanning or by substitution, shows each scan, or makes
+//! the script for the keys on standard input.
 use reference::ends::{End, Sort};
+use reference::keys;
 use reference::scanning::{self, Handled, Lent, Row};
 use reference::signs::{Table, LIMIT};
 use reference::substitution::{self, Bounds};
 use std::io::{self, Read, Write};
 use std::process::ExitCode;
 
-const USAGE: &str = "usage: reference scan [CELLS OUTPUT ALLOWANCE] | substitute | trace   (script on standard input)";
+const USAGE: &str = "usage: reference scan [CELLS OUTPUT ALLOWANCE] | substitute | trace   (script on standard input)
+       reference script [OUTPUT]   (wanted bytes on standard input)";
 
 /// Far beyond what a run is lent, so that what is given up has no end that a run could come to.
 const BOUNDS: Bounds = Bounds {
@@ -30,6 +33,11 @@ fn main() -> ExitCode {
         },
         ["substitute"] => substitute(),
         ["trace"] => trace(),
+        ["script"] => script_for(LIMIT),
+        ["script", output] => match output.parse() {
+            Ok(output) => script_for(output),
+            Err(_) => return usage(),
+        },
         _ => return usage(),
     };
     match done {
@@ -55,18 +63,18 @@ fn lent(cells: &str, output: &str, allowance: &str) -> Option<Lent> {
 }
 
 /// Standard input, but no more than one byte over the limit, which is reported as 2.
-fn script() -> io::Result<Vec<u8>> {
+fn input() -> io::Result<Vec<u8>> {
     let mut text = Vec::new();
     io::stdin().lock().take(LIMIT as u64 + 1).read_to_end(&mut text)?;
     Ok(text)
 }
 
 fn scan(lent: &Lent) -> io::Result<()> {
-    tell(&scanning::run(&script()?, lent))
+    tell(&scanning::run(&input()?, lent))
 }
 
 fn substitute() -> io::Result<()> {
-    let text = script()?;
+    let text = input()?;
     if text.len() > LIMIT {
         // Substitution has no outcome 2: the program reports it, as it does for a run, and with all counts 0.
         return tell(&scanning::run(&text, &Lent::PROGRAM));
@@ -93,9 +101,21 @@ fn tell(end: &End) -> io::Result<()> {
     Ok(())
 }
 
+/// The script goes to standard output, its outcome and length to standard error.
+fn script_for(output: usize) -> io::Result<()> {
+    let made = keys::script_for(&Ok(Table::STANDARD), &input()?, output);
+    let outcome = made.as_ref().err().copied().unwrap_or_default();
+    let script = made.unwrap_or_default();
+    let mut to = io::stdout().lock();
+    to.write_all(&script)?;
+    to.flush()?;
+    eprintln!("{outcome} {}", script.len());
+    Ok(())
+}
+
 /// The table goes to standard output and the report to standard error.
 fn trace() -> io::Result<()> {
-    let text = script()?;
+    let text = input()?;
     let mut to = io::BufWriter::new(io::stdout().lock());
     writeln!(to, "| scan | byte | open calls | bodies | output | charge |")?;
     writeln!(to, "|---:|---|---|---|---|---:|")?;

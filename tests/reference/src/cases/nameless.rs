@@ -306,7 +306,7 @@ fn hold_limits(script: &str, end: &End) {
 }
 
 /// Every script of up to so many pieces.
-fn scripts(pieces: &[&str], most: usize) -> Vec<String> {
+pub(super) fn scripts(pieces: &[&str], most: usize) -> Vec<String> {
     let mut scripts = vec![String::new()];
     let mut longest = scripts.clone();
     for _ in 0..most {

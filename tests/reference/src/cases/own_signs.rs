@@ -11,7 +11,7 @@ const STANDARD: &[u8; 6] = b"$,;~<>";
 const NEVER: &[u8] = b"ABCDEFGHIJKLMNOPQRSTUVWXYZabcdefghijklmnopqrstuvwxyz0123456789+-*";
 
 /// The entries lent for six bytes, which have the kinds 1 to 6.
-fn lent(signs: &[u8; 6]) -> Vec<u8> {
+pub(super) fn lent(signs: &[u8; 6]) -> Vec<u8> {
     let mut entries = vec![0; 256];
     for (kind, &sign) in (1..).zip(signs) {
         entries[usize::from(sign)] = kind;
@@ -20,14 +20,14 @@ fn lent(signs: &[u8; 6]) -> Vec<u8> {
 }
 
 /// The entries lent for the standard signs, with one entry changed.
-fn with(byte: u8, entry: u8) -> Vec<u8> {
+pub(super) fn with(byte: u8, entry: u8) -> Vec<u8> {
     let mut entries = lent(STANDARD);
     entries[usize::from(byte)] = entry;
     entries
 }
 
 /// The entries lent for the standard signs, with one kind moved to another byte; what the byte was, the sign's is then.
-fn moved(kind: usize, byte: u8) -> Vec<u8> {
+pub(super) fn moved(kind: usize, byte: u8) -> Vec<u8> {
     let mut entries = lent(STANDARD);
     entries.swap(usize::from(STANDARD[kind - 1]), usize::from(byte));
     entries
@@ -224,7 +224,7 @@ fn letters_fetch_under_other_signs() {
 }
 
 /// Bytes with the standard signs and six others exchanged one for one.
-fn exchange(bytes: &[u8], signs: &[u8; 6]) -> Vec<u8> {
+pub(super) fn exchange(bytes: &[u8], signs: &[u8; 6]) -> Vec<u8> {
     let exchanged = exchanged_bytes(signs);
     bytes.iter().map(|&byte| exchanged[usize::from(byte)]).collect()
 }

@@ -110,7 +110,7 @@ pub fn check(
     })
 }
 
-fn hold(holds: bool, what: &str) -> Result<(), String> {
+pub fn hold(holds: bool, what: &str) -> Result<(), String> {
     holds.then_some(()).ok_or_else(|| what.to_string())
 }
 

@@ -25,6 +25,17 @@ extern "C" {
         output_length: usize,
         allowance: u64,
     ) -> Report;
+
+    fn gpm_script(wanted: *const u8, wanted_length: usize, output: *mut u8, output_length: usize) -> u64;
+}
+
+/// The call for the keys that are lent now, as the text, and for the output; the number that comes back.
+pub fn script(memory: &mut Memory) -> u64 {
+    let (wanted_length, output_length) = (memory.text.lent().len(), memory.output.lent().len());
+    let (wanted, output) = (memory.text.pointer(), memory.output.pointer());
+    // Sound: both pointers are not null and good for their lengths, the areas are apart, and nothing else refers to
+    // them during the call.
+    unsafe { gpm_script(wanted, wanted_length, output, output_length) }
 }
 
 /// The run with what is lent now, under the signs lent or under the standard ones.

@@ -1,7 +1,7 @@
-//! Compares the library with the reference, script by script.
+//! Compares the library with the reference, case by case: scripts, and keys that a script is wanted for.
 //!
-//!     compare [--bare] SEED COUNT     scripts 0 to COUNT - 1 of a seed; bare lends memory without guards
-//!     compare --one SEED NUMBER       one script, shown
+//!     compare [--bare] SEED COUNT     cases 0 to COUNT - 1 of a seed; bare lends memory without guards
+//!     compare --one SEED NUMBER       one case, shown
 mod brim;
 mod built_ins;
 mod bulk_words;
@@ -12,9 +12,12 @@ mod definitions;
 mod examine;
 mod faults;
 mod fetching;
+mod found;
 mod generate;
 mod giving;
 mod grower;
+mod keying;
+mod keys;
 mod lending;
 mod letters;
 mod library;
@@ -26,16 +29,21 @@ mod noise;
 mod numbers;
 mod own_signs;
 mod random;
+mod recording;
 mod recursion;
 mod reduce;
+mod reduce_keys;
 mod refused_signs;
 mod script;
+mod shorten;
 mod signing;
 mod soak;
 mod tally;
 mod tell;
 
 use check::Run;
+use found::Found;
+use keys::Keys;
 use memory::Memory;
 use random::Random;
 use script::Script;
@@ -47,36 +55,52 @@ use tally::Tally;
 /// Substitution recurses as deep as calls nest.
 const STACK: usize = 1 << 30;
 
-/// The script of a seed and a number, and its runs.
-fn drawn(seed: u64, number: u64) -> (Script, Vec<Run>) {
-    let mut random = Random::new(seed, number);
-    let script = generate::script(&mut random);
-    let runs = examine::runs(&script, &mut random);
-    (script, runs)
+/// One case in so many is one of keys.
+const KEYS: usize = 8;
+
+/// A script and its runs, or keys that a script is wanted for.
+enum Case {
+    Script(Script, Vec<Run>),
+    Keys(Keys),
 }
 
-/// Whether one script shows no difference. A definition that breaks down is told as a difference is.
-fn passes(memory: &mut Memory, seed: u64, number: u64, tally: &mut Tally) -> bool {
-    let examined = panic::catch_unwind(AssertUnwindSafe(|| {
-        let (script, runs) = drawn(seed, number);
-        let examined = examine::examine(memory, &script, runs, tally);
-        (script, examined)
-    }));
-    match examined {
-        Ok((_, Ok(()))) => return true,
-        Ok((script, Err(difference))) => {
-            println!("seed {seed}, script {number}:");
-            tell::difference(&script, &difference);
-            let reduced = reduce::reduce(memory, &script, difference);
-            println!("reduced:");
-            tell::difference(&reduced.script, &reduced.difference);
+/// The case of a seed and a number.
+fn drawn(seed: u64, number: u64) -> Case {
+    let mut random = Random::new(seed, number);
+    if random.one_in(KEYS) {
+        return Case::Keys(keys::keys(&mut random));
+    }
+    let script = generate::script(&mut random);
+    let runs = examine::runs(&script, &mut random);
+    Case::Script(script, runs)
+}
+
+fn examined(memory: &mut Memory, case: Case, tally: &mut Tally) -> Result<(), Found> {
+    match case {
+        Case::Script(script, runs) => {
+            examine::examine(memory, &script, runs, tally).map_err(|difference| Found::Run(script, difference))
         }
-        Err(_) => println!("seed {seed}, script {number}: the comparison broke down"),
+        Case::Keys(keys) => recording::examine(memory, keys, tally),
+    }
+}
+
+/// Whether one case shows no difference. A definition that breaks down is told as a difference is.
+fn passes(memory: &mut Memory, seed: u64, number: u64, tally: &mut Tally) -> bool {
+    let case = AssertUnwindSafe(|| examined(memory, drawn(seed, number), tally));
+    match panic::catch_unwind(case) {
+        Ok(Ok(())) => return true,
+        Ok(Err(found)) => {
+            println!("seed {seed}, case {number}:");
+            found.tell();
+            println!("reduced:");
+            found.reduced(memory).tell();
+        }
+        Err(_) => println!("seed {seed}, case {number}: the comparison broke down"),
     }
     false
 }
 
-/// All scripts of a seed up to a count, to the first difference.
+/// All cases of a seed up to a count, to the first difference.
 fn compare(memory: &mut Memory, seed: u64, count: u64) -> bool {
     let start = Instant::now();
     let mut tally = Tally::new();
@@ -88,20 +112,28 @@ fn compare(memory: &mut Memory, seed: u64, count: u64) -> bool {
     }
     tally.print(count);
     let time = start.elapsed().as_micros() as f64 / count.max(1) as f64;
-    println!("{time:.1} microseconds a script");
+    println!("{time:.1} microseconds a case");
     let (enough, too_few) = tally.often_enough(count);
     println!("{} passed, {too_few} failed", count + enough);
     too_few == 0
 }
 
-/// One script, with all that its runs are lent.
-fn one(memory: &mut Memory, seed: u64, number: u64) -> bool {
-    let (script, runs) = drawn(seed, number);
-    tell::script(&script);
-    for run in &runs {
-        tell::lent(&run.lent);
-        tell::end("scanning", &run.scanned);
+fn show(case: &Case) {
+    match case {
+        Case::Script(script, runs) => {
+            tell::script(script);
+            for run in runs {
+                tell::lent(&run.lent);
+                tell::end("scanning", &run.scanned);
+            }
+        }
+        Case::Keys(keys) => tell::keys(keys),
     }
+}
+
+/// One case, with all that its runs are lent.
+fn one(memory: &mut Memory, seed: u64, number: u64) -> bool {
+    show(&drawn(seed, number));
     let passed = passes(memory, seed, number, &mut Tally::new());
     println!("{} passed, {} failed", u8::from(passed), u8::from(!passed));
     passed
@@ -111,7 +143,7 @@ fn command(words: &[String]) -> Option<bool> {
     let words: Vec<&str> = words.iter().map(String::as_str).collect();
     let number = |word: &str| word.parse::<u64>().ok();
     match words[..] {
-        ["--one", seed, script] => Some(one(&mut Memory::new(false), number(seed)?, number(script)?)),
+        ["--one", seed, case] => Some(one(&mut Memory::new(false), number(seed)?, number(case)?)),
         ["--bare", seed, count] => Some(compare(&mut Memory::new(true), number(seed)?, number(count)?)),
         [seed, count] => Some(compare(&mut Memory::new(false), number(seed)?, number(count)?)),
         _ => None,

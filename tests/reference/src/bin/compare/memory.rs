@@ -1,4 +1,5 @@
 //! The memory that is lent: full of rubbish, with guards around it that must keep theirs.
+use crate::keys::Keys;
 use crate::lending::LONGEST;
 use crate::random::Random;
 use crate::script::Script;
@@ -23,7 +24,7 @@ pub struct Area<T> {
 
 impl<T: Copy + PartialEq> Area<T> {
     fn new(bare: bool, mut rubbish: impl FnMut() -> T) -> Area<T> {
-        let rubbish = (0..ORIGINS + LONGEST + 4 * GUARD).map(|_| rubbish()).collect();
+        let rubbish = (0..ORIGINS + 2 * LONGEST + 4 * GUARD).map(|_| rubbish()).collect();
         Area {
             rubbish,
             bare,
@@ -120,5 +121,12 @@ impl Memory {
         self.text.lend_bytes(text, origin);
         self.cells.lend(lent.cells, origin);
         self.output.lend(lent.output, origin);
+    }
+
+    /// Lends wanted bytes, as the text, and output for their script. The two are aligned otherwise.
+    pub fn lend_keys(&mut self, keys: &Keys) {
+        let length = keys.wanted.len();
+        self.text.lend_bytes(&keys.wanted, (length * 5 + keys.output) % ORIGINS);
+        self.output.lend(keys.output, (length * 31 + keys.output * 7) % ORIGINS);
     }
 }

@@ -116,8 +116,9 @@ fn sown(six: &Six, random: &mut Random) -> Bytes {
     bytes
 }
 
-/// A text that was written with the standard signs, under others that are accepted. Seldom it stays as it was.
-pub fn written(text: Vec<u8>, random: &mut Random) -> Script {
+/// Bytes that were written with the standard signs, under others that are accepted, and their entries. Seldom the bytes
+/// stay as they were.
+pub fn rewritten(text: Vec<u8>, random: &mut Random) -> (Vec<u8>, Vec<u8>) {
     let six = six(random);
     let bytes = match random.below(20) {
         0 => same(),
@@ -126,5 +127,10 @@ pub fn written(text: Vec<u8>, random: &mut Random) -> Script {
         _ => sown(&six, random),
     };
     let text = text.into_iter().map(|byte| bytes[usize::from(byte)]).collect();
-    Script::new(text, Some(entries(&six)))
+    (text, entries(&six))
+}
+
+pub fn written(text: Vec<u8>, random: &mut Random) -> Script {
+    let (text, signs) = rewritten(text, random);
+    Script::new(text, Some(signs))
 }

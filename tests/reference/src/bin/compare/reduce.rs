@@ -4,16 +4,10 @@ use crate::examine::simplest;
 use crate::grower::SIGNS;
 use crate::memory::Memory;
 use crate::script::Script;
+use crate::shorten::{Shorten, PLAINER, TIME};
 use reference::signs::{Table, PLAIN};
 use std::collections::BTreeSet;
-use std::time::{Duration, Instant};
-
-/// Only a text as short as this is worth trying all stretches and all pairs of bytes.
-const SHORT: usize = 100;
-/// Bytes that are put for others, the plainest first.
-const PLAINER: &[u8] = b"a1k";
-/// A long text is not reduced to its shortest, where each run takes milliseconds.
-const TIME: Duration = Duration::from_secs(60);
+use std::time::Instant;
 
 pub struct Reduced {
     pub script: Script,
@@ -35,51 +29,8 @@ impl Reduced {
         true
     }
 
-    fn takes_text(&mut self, memory: &mut Memory, text: Vec<u8>) -> bool {
-        self.takes(memory, self.script.with_text(text))
-    }
-
     fn takes_signs(&mut self, memory: &mut Memory, signs: Option<Vec<u8>>) -> bool {
         self.takes(memory, Script::new(self.script.text.clone(), signs))
-    }
-
-    fn short(&self) -> bool {
-        self.script.text.len() <= SHORT
-    }
-
-    /// Leaves out pieces of every size, of a short text, and else of ever smaller ones.
-    fn shorter(&mut self, memory: &mut Memory) {
-        let mut size = self.script.text.len();
-        while size > 0 {
-            self.without_pieces(memory, size);
-            size = if self.short() { size - 1 } else { size / 2 };
-        }
-    }
-
-    /// Leaves out pieces of one size, wherever a difference remains.
-    fn without_pieces(&mut self, memory: &mut Memory, size: usize) {
-        let mut place = 0;
-        while place < self.script.text.len() {
-            let end = (place + size).min(self.script.text.len());
-            let shorter = [&self.script.text[..place], &self.script.text[end..]].concat();
-            if !self.takes_text(memory, shorter) {
-                place += if self.short() { 1 } else { size };
-            }
-        }
-    }
-
-    /// Leaves out two bytes at a time, as a pair of quotes.
-    fn without_pairs(&mut self, memory: &mut Memory) {
-        let mut first = 0;
-        while first < self.script.text.len() && self.short() {
-            let shorter = (first + 1..self.script.text.len()).find(|&second| {
-                let mut text = self.script.text.clone();
-                text.remove(second);
-                text.remove(first);
-                self.takes_text(memory, text)
-            });
-            first += usize::from(shorter.is_none());
-        }
     }
 
     /// Puts a plainer byte for each word, everywhere at once, if a difference remains. So names are shortened together,
@@ -94,19 +45,7 @@ impl Reduced {
         for word in words {
             for byte in PLAINER.chunks(1) {
                 let text = with_another(&self.script.text, &table, &word, byte);
-                if word == byte || self.takes_text(memory, text) {
-                    break;
-                }
-            }
-        }
-    }
-
-    /// Puts a plainer byte in each place where a difference remains.
-    fn plainer(&mut self, memory: &mut Memory) {
-        for place in 0..self.script.text.len() {
-            for &byte in PLAINER {
-                let mut text = self.script.text.clone();
-                if std::mem::replace(&mut text[place], byte) == byte || self.takes_text(memory, text) {
+                if word == byte || self.takes_bytes(memory, text) {
                     break;
                 }
             }
@@ -167,6 +106,16 @@ impl Reduced {
         };
         let text = self.script.text.iter().map(exchanged).collect();
         self.takes(memory, Script::new(text, Some(signs)));
+    }
+}
+
+impl Shorten for Reduced {
+    fn bytes(&self) -> &[u8] {
+        &self.script.text
+    }
+
+    fn takes_bytes(&mut self, memory: &mut Memory, text: Vec<u8>) -> bool {
+        self.takes(memory, self.script.with_text(text))
     }
 }
 

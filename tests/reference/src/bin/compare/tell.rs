@@ -1,7 +1,10 @@
 //! What is printed about a script and about a difference.
 use crate::check::Difference;
+use crate::keys::Keys;
+use crate::recording::CallDifference;
 use crate::script::Script;
 use reference::ends::{End, Report};
+use reference::keys::number;
 use reference::scanning::Lent;
 
 fn hex(bytes: &[u8]) -> String {
@@ -62,4 +65,27 @@ pub fn difference(of: &Script, difference: &Difference) {
         Ok(None) => println!("  substitution: no end within the bounds"),
         Err(outcome) => println!("  substitution: the signs are refused with {outcome}"),
     }
+}
+
+/// Keys, and what the runs of their script are lent.
+pub fn keys(keys: &Keys) {
+    let (wanted, output) = (&keys.wanted, keys.output);
+    println!("  wanted ({} bytes): {}", wanted.len(), wanted.escape_ascii());
+    println!("  in hex: {}", hex(wanted));
+    println!("  lent: {output} bytes of output");
+    keys.expanded.iter().for_each(lent);
+}
+
+/// The number that comes back of a call for keys, as outcome and length, and its script.
+fn made(who: &str, number: u64, script: &[u8]) {
+    println!("  {who}: outcome {}, length {}", number >> 32, number as u32);
+    println!("    script: {}", script.escape_ascii());
+}
+
+pub fn call(of: &Keys, difference: &CallDifference) {
+    println!("  {}", difference.what);
+    keys(of);
+    made("library", difference.number, &difference.output);
+    let script = difference.made.as_deref().unwrap_or_default();
+    made("reference", number(&difference.made), script);
 }
