@@ -166,6 +166,14 @@ module _ (T : Table) (accepted : AcceptedTable T) (wanted : Bytes) where
   none-unmatched u t oct x =
       true≢false (sym (matched-only noLimits (x .allowance) t (built-ins-match T) (x .finishes) (x .output)) ∙ u)
 
+  -- by substitution neither,
+  pub none-substituted : matched T wanted ≡ false → (t : Bytes) (d : ℕ) (e : End) → substituted (language T) d t builtIns ≡ some e
+      → finishes (e .outcome) ≡ true → e .output ≡ wanted → ⊥
+  unfolding run
+  none-substituted u t d e p f o =
+      let (n, comes) = agreement (language T) t builtIns e .1 (d, p) in
+      true≢false (sym (matched-only noLimits n t (built-ins-match T) (rw comes f) (rw comes o)) ∙ u)
+
   -- and where there is none quotes are not matched, since of matched ones there is the script
   unmatched-none : Octets wanted → NoScript T wanted → matched T wanted ≡ false
   unmatched-none oct absent = go (matched T wanted) refl
