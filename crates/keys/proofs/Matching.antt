@@ -1,20 +1,16 @@
--- How far the search for an unmatched quote, and the search for the byte of a kind, have come; and the script in the output.
+-- How far the search for a quote that is not matched has come.
 use Prim.Native.Nat.{ℕ, zero, suc, _+_, _-_, _≤_, _<_}
 use native.Mathlib.Omega.{arith}
 use mathlib.Core.Path.{_≡_, refl, ap, _∙_}
 use mathlib.Core.Bool.{Bool, true, false, cond}
-use mathlib.Core.List.{[], _∷_, _++_}
 use mathlib.Core.Option.{Option, some, bind}
-use lib.ListN.{length, drop, getD, set, drop-of-length-le}
-use lib.Seq.{drop-cons, take-length}
+use lib.ListN.{length, drop, getD, drop-of-length-le}
+use lib.Seq.{drop-cons}
 use lib.Dec.{eqb}
-use Rattle.memory.specs.Block.{copied}
-use Rattle.memory.proofs.Blocks.{copied-in, placed-before, placed-after}
 use Rattle.language.specs.Signs.{Bytes, Table, Sign, plain, dollar, comma, semicolon, tilde, quote, unquote, signOfKind, signOf}
 use Rattle.language.specs.Matched.{depthBy, depthAfter}
-use Rattle.language.specs.Expansion.{overwritten}
 use Rattle.language.proofs.Quotes.{none-some}
-use Rattle.keys.specs.Scripts.{lastBelow, byteOf, quoteKind, unquoteKind, script, closed, matched}
+use Rattle.keys.specs.Scripts.{quoteKind, unquoteKind, closed, matched}
 
 -- Depths ---------------------------------------------------------------------------------------------------------------
 
@@ -85,33 +81,3 @@ module _ {T : Table} {wanted : Bytes} where
   pub matching-end : {done depth : ℕ} → Matching T wanted done depth → length wanted ≤ done → matched T wanted ≡ eqb depth 0
   unfolding depthAfter
   matching-end {done} {depth} r h = ap closed (r .rest ∙ ap (depthAfter T depth) (drop-of-length-le wanted {i = done} h))
-
--- The byte of a kind ---------------------------------------------------------------------------------------------------
-
-module _ (n : ℕ) (test : ℕ → Bool) where
-  pub last-here : test n ≡ true → lastBelow (suc n) test ≡ n
-  unfolding lastBelow
-  last-here e = rw e refl
-
-  pub last-lower : test n ≡ false → lastBelow (suc n) test ≡ lastBelow n test
-  unfolding lastBelow
-  last-lower e = rw e refl
-
--- The script in the output -----------------------------------------------------------------------------------------------
-
--- bytes copied to the second place, then one put before them and one behind
-quoted-bytes : (q u : ℕ) (wanted output : Bytes) → length wanted + 2 ≤ length output
-    → set (set (copied 0 1 (length wanted) wanted output) 0 q) (length wanted + 1) u ≡ overwritten (q ∷ (wanted ++ (u ∷ []))) output
-quoted-bytes q u wanted output h =
-    let next : length wanted + 1 ≡ 0 + length (q ∷ wanted) = omega arith in
-    let all : 0 + length (q ∷ (wanted ++ (u ∷ []))) ≡ length (q ∷ (wanted ++ (u ∷ []))) = omega arith in
-    rw (copied-in 0 1 (length wanted) wanted output (omega arith) (omega arith), take-length wanted, placed-before 0 wanted output q (omega arith), next)
-    (placed-after 0 (q ∷ wanted) output u (omega arith) ∙ ap (λ (n : ℕ). (q ∷ (wanted ++ (u ∷ []))) ++ drop n output) all)
-
--- so the output has become the script
-pub written-script : (T : Table) (wanted output : Bytes) {o₁ o₂ o₃ : Bytes} {q u : ℕ} → length wanted + 2 ≤ length output
-    → o₁ ≡ copied 0 1 (length wanted) wanted output → q ≡ byteOf T quoteKind → o₂ ≡ set o₁ 0 q
-    → u ≡ byteOf T unquoteKind → o₃ ≡ set o₂ (length wanted + 1) u
-    → o₃ ≡ overwritten (script T wanted) output
-written-script T wanted output h e₁ q e₂ u e₃ =
-    rw (e₃, u, e₂, q, e₁) (quoted-bytes (byteOf T quoteKind) (byteOf T unquoteKind) wanted output h)

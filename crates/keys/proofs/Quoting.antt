@@ -5,7 +5,7 @@ use mathlib.Core.Path.{_≡_, refl, ap, _∙_}
 use mathlib.Core.List.{List, [], _∷_, _++_, append-assoc, append-nil}
 use mathlib.Core.Option.{Option, none, some, bind}
 use lib.ListN.{length}
-use Rattle.language.specs.Signs.{Bytes, Table, Sign, plain, dollar, comma, semicolon, tilde, quote, unquote, signOf, outside, inside, meaning, language}
+use Rattle.language.specs.Signs.{Bytes, Table, Sign, plain, dollar, comma, semicolon, tilde, quote, unquote, signOf, inside, meaning, language}
 use Rattle.language.specs.Definitions.{Definition}
 use Rattle.language.specs.Scanning.{Standing, State, Step, next, stop, noLimits, scan, scans, start}
 use Rattle.language.specs.Scanning as S

@@ -40,10 +40,6 @@ pub record Answered : Type 0 where
 abbrev pub answeredIn : ScriptReport → Bytes → Answered
 answeredIn r output = record { outcome = r .outcome; length = r .length; output = output }
 
--- The recorder "gets back one 64-bit number, outcome × 4,294,967,296 + length"
-abbrev pub numberOf : Answered → ℕ
-numberOf x = x .outcome * 4294967296 + x .length
-
 -- The script -----------------------------------------------------------------------------------------------------------
 
 -- the last number below n of which a test holds, and 0 where there is none
@@ -158,6 +154,10 @@ pub record Promised (g : Asked) (x : Answered) : Type 0 where
 abbrev pub Scripted : Asked → Answered → Type 0
 Scripted g x = (x ≡ answered g) × Promised g x
 
--- The same where the answer is one number.
+-- The recorder "gets back one 64-bit number, outcome × 4,294,967,296 + length"
+abbrev pub numberOf : Answered → ℕ
+numberOf x = x .outcome * 4294967296 + x .length
+
+-- The same promise, where the answer is one number.
 abbrev pub Numbered : Asked → ℕ → Bytes → Type 0
 Numbered g number output = (x : Answered) × Scripted g x × (number ≡ numberOf x) × (output ≡ x .output)

@@ -4,7 +4,7 @@ use native.Mathlib.Omega.{arith}
 use mathlib.Core.Path.{_≡_, refl, sym, ap, subst, _∙_}
 use mathlib.Core.Logic.{_↔_}
 use mathlib.Core.Bool.{Bool, true, false, true≢false, cond, not, _&&_, _||_, or-false}
-use mathlib.Core.List.{List}
+use mathlib.Core.List.{List, [], _∷_, _++_}
 use mathlib.Core.Option.{Option, none, some}
 use lib.ListN.{length, getD}
 use lib.Dec.{eqb, leb, ltb}
@@ -224,6 +224,32 @@ refused-with P {k} (with {x = r} {xs = more} p ps) e = go (r .holds) e (refused-
     go : (t : Bool) → cond t (some (r .outcome)) (refusedBy more) ≡ some k → (refusedBy more ≡ some k → P k) → P k
     go true q rest = let h : r .outcome ≡ k = cc in subst P h p
     go false q rest = rest q
+
+-- checks behind others are made where no earlier one holds
+pub behind-none : (a b : List Refusal) → refusedBy a ≡ none → refusedBy (a ++ b) ≡ refusedBy b
+unfolding refusedBy
+behind-none [] b e = refl
+behind-none (r ∷ a) b e =
+    let (here, more) = refused-none (r .outcome) (r .holds) (refusedBy a) e in
+    rw here (behind-none a b more)
+
+pub behind-some : (a b : List Refusal) (k : ℕ) → refusedBy a ≡ some k → refusedBy (a ++ b) ≡ some k
+unfolding refusedBy
+behind-some [] b k e = let z : _≡_ {A = ℕ} 0 1 = cc in absurd (omega arith)
+behind-some (r ∷ a) b k e = go (r .holds) e (behind-some a b k)
+  where
+    go : (t : Bool) → cond t (some (r .outcome)) (refusedBy a) ≡ some k → (refusedBy a ≡ some k → refusedBy (a ++ b) ≡ some k)
+        → cond t (some (r .outcome)) (refusedBy (a ++ b)) ≡ some k
+    go true p more = p
+    go false p more = more p
+
+-- where none of all holds none of either holds
+pub both-none : (a b : List Refusal) → refusedBy (a ++ b) ≡ none → (refusedBy a ≡ none) × (refusedBy b ≡ none)
+both-none a b e = go (refusedBy a) refl
+  where
+    go : (r : Option ℕ) → refusedBy a ≡ r → (r ≡ none) × (refusedBy b ≡ none)
+    go (some k) h = let h′ = behind-some a b k h in let z : _≡_ {A = ℕ} 0 1 = cc in absurd (omega arith)
+    go none h = (refl, sym (behind-none a b h) ∙ e)
 
 -- what is no 30 has 256 entries
 pub table-size : (T : Table) → notATable T ≡ false → length T ≡ 256

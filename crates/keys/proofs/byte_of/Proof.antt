@@ -6,7 +6,7 @@ use lib.ListN.{getD}
 use borrow.Author.Tests.{eq-eqb, ne-eqb}
 use Rattle.language.specs.Refusals.{hasKind}
 use Rattle.keys.specs.Scripts.{lastBelow, byteOf}
-use Rattle.keys.proofs.Matching.{last-here, last-lower}
+use Rattle.keys.proofs.Writing.{last-here, last-lower}
 use borrow.Author.Needs.{needs}
 use Rattle.keys.proofs.byte_of.Statement.{statement}
 use Rattle.keys.proofs.byte_of.Tie as tie

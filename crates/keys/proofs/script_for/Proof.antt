@@ -5,7 +5,7 @@ use denote.Ref.{now}
 use Rattle.language.specs.Refusals.{refusalIn}
 use Rattle.language.proofs.Octets.{octets-of}
 use Rattle.keys.specs.Scripts.{asked}
-use Rattle.keys.proofs.Scripts.{delivers, answers-refused, answers-script, taken}
+use Rattle.keys.proofs.Answers.{delivers, answers-refused, answers-script, taken}
 use borrow.Author.Needs.{needs}
 use Rattle.keys.proofs.script_for.Statement.{statement}
 use Rattle.keys.proofs.script_for.Tie as tie

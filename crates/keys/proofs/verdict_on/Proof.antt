@@ -4,7 +4,7 @@ use denote.Ref.{now}
 use Rattle.language.specs.Refusals.{refusalIn}
 use Rattle.language.proofs.Accepted.{accepted-exactly}
 use Rattle.keys.specs.Scripts.{asked}
-use Rattle.keys.proofs.Scripts.{refused-large, refused-signs, refused-own}
+use Rattle.keys.proofs.Answers.{refused-large, refused-signs, refused-own}
 use borrow.Author.Needs.{needs}
 use Rattle.keys.proofs.verdict_on.Statement.{statement}
 use Rattle.keys.proofs.verdict_on.Tie as tie

@@ -3,7 +3,7 @@ use mathlib.Core.Path.{sym, _∙_}
 use borrow.Author.Tests.{not-true, not-false}
 use denote.Ref.{now}
 use Rattle.keys.specs.Scripts.{asked}
-use Rattle.keys.proofs.Scripts.{refused-unmatched, refused-short, refused-not}
+use Rattle.keys.proofs.Answers.{refused-unmatched, refused-short, refused-not}
 use borrow.Author.Needs.{needs}
 use Rattle.keys.proofs.verdict_on_script.Statement.{statement}
 use Rattle.keys.proofs.verdict_on_script.Tie as tie

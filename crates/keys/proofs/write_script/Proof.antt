@@ -1,6 +1,6 @@
 -- The wanted bytes behind the place of the first quote, then the two quotes.
 use denote.Ref.{now}
-use Rattle.keys.proofs.Matching.{written-script}
+use Rattle.keys.proofs.Writing.{written-script}
 use borrow.Author.Needs.{needs}
 use Rattle.keys.proofs.write_script.Statement.{statement}
 use Rattle.keys.proofs.write_script.Tie as tie
