@@ -144,8 +144,8 @@ gpm_report gpm_expand_signs(const uint8_t *signs, size_t signs_length, const uin
  *   5   output shorter than the script, which has wanted_length + 2 bytes
  *
  * With outcome 0 the first GPM_SCRIPT_LENGTH bytes of the output are the script, and those behind them are as they were.
- * gpm_expand finishes it with outcome 0 and the wanted bytes wherever it is lent wanted_length bytes of output and
- * wanted_length + 3 scans; no cells are needed. The wanted bytes are never written.
+ * gpm_expand finishes it with outcome 0 and the wanted bytes wherever it is lent, within the limits, at least
+ * wanted_length bytes of output and wanted_length + 3 scans; no cells are needed. The wanted bytes are never written.
  *
  * The caller: wanted and output point to as many bytes as their lengths say, and not to NULL, also where a length is 0;
  * they do not overlap; nothing else reads or writes the output, or writes the wanted bytes, before the call returns.

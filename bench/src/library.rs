@@ -26,6 +26,8 @@ extern "C" {
         output_length: usize,
         allowance: u64,
     ) -> Report;
+
+    fn gpm_script(wanted: *const u8, wanted_length: usize, output: *mut u8, output_length: usize) -> u64;
 }
 
 /// What the program `gpm` lends, for one run after another.
@@ -79,6 +81,25 @@ impl Memory {
                 Lent::PROGRAM.allowance,
             )
         }
+    }
+
+    /// A script for given keys, in the output.
+    pub fn script(&mut self, wanted: &[u8]) -> u64 {
+        // Safety: as above; only the output is written.
+        unsafe {
+            gpm_script(
+                wanted.as_ptr(),
+                wanted.len(),
+                self.output.as_mut_ptr(),
+                self.output.len(),
+            )
+        }
+    }
+
+    /// What such a call wrote, by its answer.
+    pub fn scripted(&self, answer: u64) -> &[u8] {
+        assert_eq!(answer >> 32, 0, "the outcome of a call for keys");
+        &self.output[..answer as u32 as usize]
     }
 
     pub fn written(&self, report: &Report) -> &[u8] {

@@ -3,6 +3,7 @@
 mod document;
 mod growth;
 mod in_process;
+mod keys;
 mod library;
 mod machine;
 mod markdown;
@@ -81,6 +82,7 @@ fn measured(request: &Request) -> String {
     let machine = machine::described(programs.m4.as_deref());
     let in_process = in_process::table(&workloads, *rounds);
     let signs = signs::table(*rounds);
+    let keys = keys::table(*rounds);
     let soak = soak::table(*rounds);
     let processes = processes::table(&programs, &workloads, *rounds);
     let growth = growth::tables(&programs, *rounds);
@@ -89,6 +91,7 @@ fn measured(request: &Request) -> String {
         "Best of {rounds} rounds.\n\n{machine}\n\
          ### In process: the library and the reference\n\n{in_process}\n\
          ### Lent signs: gpm_expand_signs and gpm_expand\n\n{signs}\n\
+         ### A script for given keys: gpm_script and the reference\n\n{keys}\n\
          ### Soak: the same calls with more and more charged\n\n{soak}\n\
          ### Whole processes: gpm and m4\n\n{processes}\n\
          ### Growth\n\n{growth}\n\
