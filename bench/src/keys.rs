@@ -9,13 +9,13 @@ use reference::signs::{Checked, Table as Signs};
 /// Keys without quotes and keys of quotes alone, all of which have a script.
 fn recordings() -> Vec<(&'static str, Vec<u8>)> {
     let plain = |count: usize| b"[MENU]5,OK;".iter().copied().cycle().take(count).collect();
-    let longest = keys::LONGEST_WANTED / 2;
+    let half = keys::LONGEST_WANTED / 2;
     vec![
         ("no keys", Vec::new()),
         ("100 keys", plain(100)),
         ("10,000 keys", plain(10_000)),
         ("65,534 keys", plain(keys::LONGEST_WANTED)),
-        ("65,534 keys, all quotes", [vec![b'<'; longest], vec![b'>'; longest]].concat()),
+        ("65,534 keys, all quotes", [vec![b'<'; half], vec![b'>'; half]].concat()),
     ]
 }
 
@@ -45,9 +45,17 @@ fn scripted(wanted: &[u8]) -> Vec<u8> {
 
 pub fn table(rounds: usize) -> Table {
     let recordings = recordings();
-    let contenders = recordings.iter().flat_map(|(_, wanted)| [library(wanted), reference(wanted)]).collect();
+    let contenders = recordings
+        .iter()
+        .flat_map(|(_, wanted)| [library(wanted), reference(wanted)])
+        .collect();
     let times = best(rounds, contenders);
-    let mut table = Table::new(&["keys", "library, ns a call", "reference, ns a call", "library / reference"]);
+    let mut table = Table::new(&[
+        "keys",
+        "library, ns a call",
+        "reference, ns a call",
+        "library / reference",
+    ]);
     for ((name, _), times) in recordings.iter().zip(times.chunks(2)) {
         let nanoseconds = |seconds: f64| grouped((seconds * 1e9) as u64);
         table.row(vec![
