@@ -64,6 +64,7 @@ script T wanted = byteOf T quoteKind ∷ (wanted ++ (byteOf T unquoteKind ∷ []
 
 -- Its checks -----------------------------------------------------------------------------------------------------------
 
+-- "wanted bytes, up to 65,534": with its quotes the longest script is the longest text
 abbrev pub wantedLimit : ℕ
 wantedLimit = 65534
 
