@@ -132,8 +132,8 @@ gpm_report gpm_expand_signs(const uint8_t *signs, size_t signs_length, const uin
                             uint64_t allowance);
 
 /*
- * Writes a script for the wanted bytes, with the standard signs: one that expands to exactly these bytes. It is they
- * inside one pair of quotes.
+ * Writes a script for the wanted bytes, with the standard signs: one that expands to exactly these bytes. It is the
+ * wanted bytes inside one pair of quotes.
  *
  * The answer is one number, outcome times 4,294,967,296 plus the script's length, which GPM_SCRIPT_OUTCOME and
  * GPM_SCRIPT_LENGTH take apart. The checks are made in this order, and the first that holds is the outcome, with length 0

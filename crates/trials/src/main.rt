@@ -1,5 +1,6 @@
 // Runs the expander on every row of scripts.tsv and of signs.tsv, and on texts, cells and output of every size about the
-// limits; asks for a script for every row of keys.tsv, and for keys and output of every size about theirs. Writes a line for each run that is wrong and, at the end of each part, how many runs there were.
+// limits; asks for a script for every row of keys.tsv, and for keys and output of every size about theirs. Writes a line for
+// each trial that is wrong and, at the end of each part, how many there were.
 mod fields;
 mod lending;
 mod pattern;
