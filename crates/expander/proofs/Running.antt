@@ -19,7 +19,7 @@ use Rattle.language.specs.Ends.{End, reported}
 use Rattle.language.specs.Octets.{Octets}
 use Rattle.language.specs.Scanning.{Standing, Step, next, stop, endWith}
 use Rattle.language.specs.Scanning as S
-use Rattle.language.specs.Expansion.{Lent, lent, Given, Returned, refusals, cleared, overwritten, limitsOf, ending, expanded}
+use Rattle.language.specs.Expansion.{Lent, lent, Given, given, Returned, refusals, cleared, overwritten, limitsOf, ending, expanded}
 use Rattle.language.specs.Demand.{Demand3, Substitutes, Expanded}
 use Rattle.language.proofs.Accepted.{lent-accepted, accepted-exactly}
 use Rattle.language.proofs.Demand.{builtIns-free, demand3, substitutes}
@@ -31,7 +31,7 @@ use Rattle.machine.specs.Moving.{Comes, Moves}
 use Rattle.machine.proofs.Fresh.{freshHolds}
 use Rattle.machine.proofs.Advancing.{range-in}
 use Rattle.machine.proofs.Showing.{stateShown}
-use Rattle.expander.specs.Reports.{given, numbers, returned, refusedWith, outcomeOf, reportOf, cameTo, Ran}
+use Rattle.expander.specs.Reports.{numbers, returned, refusedWith, outcomeOf, reportOf, cameTo, Ran}
 
 -- The end of the run -------------------------------------------------------------------------------------------------
 

@@ -1,7 +1,6 @@
--- What a caller gives and sees of a run.
+-- What a caller sees of a run.
 use Prim.Native.Nat.{ℕ}
 use mathlib.Core.Path.{_≡_}
-use Rattle.language.specs.Signs.{Bytes, Table}
 use Rattle.language.specs.Outcomes
 use Rattle.language.specs.BuiltIns.{builtIns}
 use Rattle.language.specs.Ends.{End, Reported, reported}
@@ -13,10 +12,6 @@ use Rattle.machine.specs.declared.run.Answer.the-variants.{GoesOn, Ended, Damag
 use Rattle.machine.specs.declared.run.Stepped.{Stepped}
 use Rattle.machine.specs.Held.{shown}
 use Rattle.expander.specs.declared.Report.{Report}
-
--- a run that starts from the built-ins alone
-abbrev pub given : Table → Bytes → Lent → ℕ → Given
-given T text m allowance = record { table = T; text = text; definitions = builtIns; lent = m; allowance = allowance }
 
 -- the six numbers of a report
 abbrev pub numbers : Report → Reported

@@ -11,10 +11,10 @@ ghost use Prim.Native.Nat.{_≤_};
 ghost use lib.ListN.{length};
 ghost use Rattle.language.specs.Signs.{standard, cellsLimit};
 ghost use Rattle.language.specs.Refusals.{refusedBy};
-ghost use Rattle.language.specs.Expansion.{lent, refusals, expanded};
+ghost use Rattle.language.specs.Expansion.{lent, given, refusals, expanded};
 ghost use Rattle.language.specs.Demand.{Expanded};
 ghost use Rattle.keys.specs.Scripts.{asked, Numbered};
-ghost use Rattle.expander.specs.Reports.{given, outcomeOf, reportOf, refusedWith, returned, Ran};
+ghost use Rattle.expander.specs.Reports.{outcomeOf, reportOf, refusedWith, returned, Ran};
 
 // What a run reports, in document 01's order: for Rattle and for C.
 #[repr(C)]

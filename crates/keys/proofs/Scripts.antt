@@ -9,7 +9,7 @@ use mathlib.Core.Option.{Option, none, some}
 use lib.ListN.{length, length-append}
 use lib.Dec.{T as So}
 use borrow.Author.Tests.{eqb-true, le-ltb}
-use Rattle.language.specs.Signs.{Bytes, Table, quote, unquote, signOfKind, signOf, language, textLimit, cellsLimit, outputLimit}
+use Rattle.language.specs.Signs.{Bytes, Table, signOfKind, language, textLimit, cellsLimit, outputLimit}
 use Rattle.language.specs.Outcomes.{finishes, endOfText}
 use Rattle.language.specs.Refusals.{refusedBy, AcceptedTable}
 use Rattle.language.specs.Definitions.{Definition, live}
@@ -20,7 +20,7 @@ use Rattle.language.specs.Scanning.{Limits, next, stop, endOf, noLimits, scans,
 use Rattle.language.specs.Substitution.{substituted}
 use Rattle.language.specs.Matched.{depthAfter, Matched, All, empty, with, ValueMatches}
 use Rattle.language.specs.Octets.{Octets}
-use Rattle.language.specs.Expansion.{Lent, Given, cleared, overwritten, ending, expanded}
+use Rattle.language.specs.Expansion.{Lent, Given, given, cleared, overwritten, ending, expanded}
 use Rattle.language.specs.Expansion as E
 use Rattle.language.specs.Demand.{Demand3}
 use Rattle.language.proofs.Agree.{agreement, depth-once}
@@ -28,20 +28,13 @@ use Rattle.language.proofs.Demand.{builtIns-free, demand3}
 use Rattle.language.proofs.Limits.{scans-ended}
 use Rattle.language.proofs.Octets.{octets-append}
 use Rattle.language.proofs.Quotes.{run-matched, built-ins-match}
-use Rattle.keys.specs.Scripts.{byteOf, quoteKind, unquoteKind, script, wantedLimit, closed, matched, scriptEnd, scriptGiven, scriptReport, ScriptFits, NoScript}
+use Rattle.keys.specs.Scripts.{byteOf, quoteKind, unquoteKind, script, wantedLimit, closed, matched, scriptEnd, scriptReport, ScriptFits, NoScript}
 use Rattle.keys.proofs.Writing.{byte-of}
 use Rattle.keys.proofs.Quoting.{quoted}
 
 -- Its bytes --------------------------------------------------------------------------------------------------------------
 
 module _ (T : Table) (accepted : AcceptedTable T) where
-  -- it begins with a quote and ends with an unquote
-  quote-byte : signOf T (byteOf T quoteKind) ≡ quote
-  quote-byte = ap signOfKind (byte-of T accepted quoteKind (omega arith) (omega arith) .1)
-
-  unquote-byte : signOf T (byteOf T unquoteKind) ≡ unquote
-  unquote-byte = ap signOfKind (byte-of T accepted unquoteKind (omega arith) (omega arith) .1)
-
   -- a script is of bytes where the wanted ones are
   script-octets : {wanted : Bytes} → Octets wanted → Octets (script T wanted)
   script-octets h =
@@ -70,7 +63,10 @@ module _ (T : Table) (accepted : AcceptedTable T) (wanted : Bytes) (m : Matched 
   -- "With no limits of cells, output or scans, expanding it finishes with outcome 0 and the wanted bytes": from any definitions,
   -- with the counts of `scriptEnd`
   pub script-scanned : scans noLimits (language T) (length wanted + 3) (next (start (script T wanted) ds)) ≡ stop (scriptEnd wanted ds)
-  script-scanned = quoted T (byteOf T quoteKind) (byteOf T unquoteKind) wanted ds (quote-byte T accepted) (unquote-byte T accepted) m
+  script-scanned =
+      let q = byte-of T accepted quoteKind (omega arith) (omega arith) .1 in
+      let u = byte-of T accepted unquoteKind (omega arith) (omega arith) .1 in
+      quoted T (byteOf T quoteKind) (byteOf T unquoteKind) wanted ds (ap signOfKind q) (ap signOfKind u) m
 
   -- as a run with that allowance or more,
   pub script-expands : (n : ℕ) → length wanted + 3 ≤ n → run noLimits (language T) n (script T wanted) ds ≡ scriptEnd wanted ds
@@ -85,7 +81,7 @@ module _ (T : Table) (accepted : AcceptedTable T) (wanted : Bytes) (m : Matched 
 
 module _ (T : Table) (accepted : AcceptedTable T) (wanted : Bytes) (m : Matched T wanted) (lent : Lent) (allowance : ℕ) where
   abbrev g : Given
-  g = scriptGiven T wanted lent allowance
+  g = given T (script T wanted) lent allowance
 
   abbrev e₀ : End
   e₀ = scriptEnd wanted builtIns

@@ -18,7 +18,7 @@ use Rattle.language.specs.Ends.{End, Reported}
 use Rattle.language.specs.Scanning.{noLimits, run}
 use Rattle.language.specs.Matched.{depthAfter}
 use Rattle.language.specs.Octets.{Octets}
-use Rattle.language.specs.Expansion.{Lent, Given, overwritten}
+use Rattle.language.specs.Expansion.{Lent, overwritten}
 use Rattle.keys.specs.declared.ScriptReport.{ScriptReport}
 
 -- "The call takes wanted bytes, up to 65,534, and an output": and the table of kinds of "the signs in force"
@@ -119,16 +119,12 @@ scriptEnd wanted ds = record {
   definitions = ds;
 }
 
--- the script lent to `expand`
-abbrev pub scriptGiven : Table → Bytes → Lent → ℕ → Given
-scriptGiven T wanted lent allowance = record { table = T; text = script T wanted; definitions = builtIns; lent = lent; allowance = allowance }
-
--- what it needs of what is lent, and no cells
+-- What `expand` needs to be lent for it, and no cells,
 pub record ScriptFits (wanted : Bytes) (lent : Lent) (allowance : ℕ) : Type 0 where
   pub output : length wanted ≤ length (lent .output)
   pub scans : length wanted + 3 ≤ allowance
 
--- and what is then reported
+-- and what it then reports
 abbrev pub scriptReport : Bytes → Reported
 scriptReport wanted = record { outcome = Outcomes.finished; read = length wanted + 2; written = length wanted; scans = length wanted + 3; most = 0; live = 0 }
 

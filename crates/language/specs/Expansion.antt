@@ -6,6 +6,7 @@ use lib.ListN.{length, drop}
 use Rattle.language.specs.Signs.{Bytes, Table, language}
 use Rattle.language.specs.Refusals.{Refusal, refusedBy, lentRefusals}
 use Rattle.language.specs.Definitions.{Definition}
+use Rattle.language.specs.BuiltIns.{builtIns}
 use Rattle.language.specs.Ends.{End, Reported, reported}
 use Rattle.language.specs.Scanning.{Limits, atMost, run}
 
@@ -24,6 +25,10 @@ pub record Given : Type 0 where
   pub definitions : List Definition
   pub lent : Lent
   pub allowance : ℕ
+
+-- a run that starts from the built-ins alone
+abbrev pub given : Table → Bytes → Lent → ℕ → Given
+given T text m allowance = record { table = T; text = text; definitions = builtIns; lent = m; allowance = allowance }
 
 -- what it gives back: the report, and the final content of what was lent
 pub record Returned : Type 0 where

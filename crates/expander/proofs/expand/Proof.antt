@@ -3,9 +3,8 @@ use mathlib.Core.Path.{refl, sym, _∙_}
 use denote.Ref.{now}
 use lib.ListN.{length}
 use Rattle.language.specs.Signs.{standard}
-use Rattle.language.specs.Expansion.{lent}
+use Rattle.language.specs.Expansion.{lent, given}
 use Rattle.language.proofs.Accepted.{standard-lent}
-use Rattle.expander.specs.Reports.{given}
 use Rattle.expander.proofs.Running.{large, delivers}
 use borrow.Author.Needs.{needs}
 use Rattle.expander.proofs.expand.Statement.{statement}

@@ -1,7 +1,6 @@
 -- What was accepted has few enough cells; what ends so is reported so.
 use denote.Ref.{now}
-use Rattle.language.specs.Expansion.{lent}
-use Rattle.expander.specs.Reports.{given}
+use Rattle.language.specs.Expansion.{lent, given}
 use Rattle.expander.proofs.Running.{reports, cellsFit}
 use borrow.Author.Needs.{needs}
 use Rattle.expander.proofs.expand_accepted.Statement.{statement}

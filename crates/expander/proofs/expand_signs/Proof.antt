@@ -2,8 +2,7 @@
 use mathlib.Core.Path.{refl, sym, ap, _∙_}
 use denote.Ref.{now}
 use Rattle.language.specs.Refusals.{refusalIn}
-use Rattle.language.specs.Expansion.{lent}
-use Rattle.expander.specs.Reports.{given}
+use Rattle.language.specs.Expansion.{lent, given}
 use Rattle.expander.proofs.Running.{refuses, delivers, signsFit}
 use borrow.Author.Needs.{needs}
 use Rattle.expander.proofs.expand_signs.Statement.{statement}
