@@ -1,7 +1,8 @@
 #!/usr/bin/env python3
 """Writes the cases that the program `calc` is tested on and the answers it must give: crates/calc/stdin and stdout.
 
-The answers come from Python's own integers and a reading of document 01, Arithmetic; nothing here calls the crates.
+The answers come from Python's own integers, by which a remainder of a positive divisor is never negative, and a reading of
+document 01, Arithmetic, and document 02, Seven; nothing here calls the crates.
 """
 import os
 import re
@@ -9,7 +10,7 @@ import re
 SMALLEST, LARGEST = -2147483648, 2147483647
 
 NUMBERS = [
-    b'0', b'-0', b'+0', b'1', b'-1', b'2', b'-2', b'7', b'-7', b'10', b'-10', b'+99', b'46340', b'46341', b'-46341',
+    b'0', b'-0', b'+0', b'1', b'-1', b'2', b'-2', b'7', b'-7', b'8', b'-8', b'10', b'-10', b'+99', b'46340', b'46341', b'-46341',
     b'65536', b'2147483646', b'2147483647', b'+2147483647', b'-2147483647', b'-2147483648',
     b'0' * 30 + b'7', b'-' + b'0' * 30 + b'2147483648',
 ]
@@ -28,11 +29,6 @@ def operand(text):
     return value if SMALLEST <= value <= LARGEST else None
 
 
-def cut_towards_zero(a, b):
-    size = abs(a) // abs(b)
-    return size if (a < 0) == (b < 0) else -size
-
-
 def answer(name, left, right):
     a, b = operand(left), operand(right)
     if a is None or b is None:
@@ -46,9 +42,9 @@ def answer(name, left, right):
     elif name == '*':
         value = a * b
     elif name == 'Quot':
-        value = cut_towards_zero(a, b)
+        value = (a - a % abs(b)) // b
     else:
-        value = a - b * cut_towards_zero(a, b)
+        value = a % abs(b)
     if not SMALLEST <= value <= LARGEST:
         return 24, ''
     return 0, str(value)

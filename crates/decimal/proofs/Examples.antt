@@ -1,4 +1,4 @@
--- Examples of the document's Arithmetic, computed: each case is an operation, two operands, and the outcome and bytes that answer it.
+-- Examples of document 01, Arithmetic, and of document 02, Seven, computed: each case is an operation, two operands, and the outcome and bytes that answer it.
 use Prim.Native.Nat.{ℕ}
 use mathlib.Core.Path.{_≡_, refl}
 use mathlib.Core.Bool.{Bool, true, false, cond, _&&_}
@@ -78,12 +78,28 @@ cases : List Case
 cases =
     -- 3 - 5 is -2
     gives Difference (51 ∷ []) (53 ∷ []) (45 ∷ 50 ∷ []) ∷
-    -- Quot of -7 by 2 is -3
-    gives Quotient (45 ∷ 55 ∷ []) (50 ∷ []) (45 ∷ 51 ∷ []) ∷
-    -- Rem of -7 by 2 is -1
-    gives Remainder (45 ∷ 55 ∷ []) (50 ∷ []) (45 ∷ 49 ∷ []) ∷
-    -- Rem of 7 by -2 is 1
+    -- Quot of -7 by 2 is -4, by -2 it is 4
+    gives Quotient (45 ∷ 55 ∷ []) (50 ∷ []) (45 ∷ 52 ∷ []) ∷
+    gives Quotient (45 ∷ 55 ∷ []) (45 ∷ 50 ∷ []) (52 ∷ []) ∷
+    -- Rem of -7 by 2 and by -2 is 1
+    gives Remainder (45 ∷ 55 ∷ []) (50 ∷ []) (49 ∷ []) ∷
+    gives Remainder (45 ∷ 55 ∷ []) (45 ∷ 50 ∷ []) (49 ∷ []) ∷
+    -- Quot of 7 by -2 is -3 and Rem is 1
+    gives Quotient (55 ∷ []) (45 ∷ 50 ∷ []) (45 ∷ 51 ∷ []) ∷
     gives Remainder (55 ∷ []) (45 ∷ 50 ∷ []) (49 ∷ []) ∷
+    -- up from entry 0 of an eight-entry menu: Rem of -1 by 8 is 7, Quot is -1
+    gives Remainder (45 ∷ 49 ∷ []) (56 ∷ []) (55 ∷ []) ∷
+    gives Quotient (45 ∷ 49 ∷ []) (56 ∷ []) (45 ∷ 49 ∷ []) ∷
+    -- Quot of -8 by 8 is -1 and Rem is 0: no step
+    gives Quotient (45 ∷ 56 ∷ []) (56 ∷ []) (45 ∷ 49 ∷ []) ∷
+    gives Remainder (45 ∷ 56 ∷ []) (56 ∷ []) (48 ∷ []) ∷
+    -- Quot of -1 by -2147483648 is 1 and Rem is 2147483647
+    gives Quotient (45 ∷ 49 ∷ []) smallest (49 ∷ []) ∷
+    gives Remainder (45 ∷ 49 ∷ []) smallest largest ∷
+    -- Quot of -2147483648 by 1 is itself, by 2147483647 it is -2, and Rem of these is 2147483646
+    gives Quotient smallest (49 ∷ []) smallest ∷
+    gives Quotient smallest largest (45 ∷ 50 ∷ []) ∷
+    gives Remainder smallest largest (50 ∷ 49 ∷ 52 ∷ 55 ∷ 52 ∷ 56 ∷ 51 ∷ 54 ∷ 52 ∷ 54 ∷ []) ∷
     -- Quot of -2147483648 by -1 is out of range
     refuses Quotient smallest (45 ∷ 49 ∷ []) 24 ∷
     -- Rem of -2147483648 by -1 is 0

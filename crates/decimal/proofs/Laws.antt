@@ -26,7 +26,7 @@ use Rattle.decimal.specs.Answers.{decimalOf}
 use Rattle.decimal.specs.Arithmetic.{number, refused, divides, isZero, exact, ranged, ofOperands, calculated}
 
 -- nothing is no number
-none-some : {A : Type 0} {a : A} → none ≡ some a → ⊥
+pub none-some : {A : Type 0} {a : A} → none ≡ some a → ⊥
 none-some e = let q : _≡_ {A = ℕ} 0 1 = cc in omega arith
 
 -- every byte of the digits is a digit
@@ -142,7 +142,7 @@ unfolding operand
 operand-least t z e = worth-least t z (operand-worth (worth t) z e)
 
 -- a refusal is no number
-no-number : (n : ℕ) (z : ℤ) → refused n ≡ number z → ⊥
+pub no-number : (n : ℕ) (z : ℤ) → refused n ≡ number z → ⊥
 no-number n z e = let q : _≡_ {A = ℕ} 0 1 = cc in omega arith
 
 -- a number that is ranged is in range

@@ -1,9 +1,12 @@
 pub mod Ranges
 pub mod Machine
+pub mod Division
+pub mod Cut
 pub mod Results
 pub mod Reading
 pub mod Digits
 pub mod Texts
 pub mod Bytes
 pub mod Laws
+pub mod QuotRem
 pub mod Examples

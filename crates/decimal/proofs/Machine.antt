@@ -1,13 +1,13 @@
--- The machine's signed numbers are the integers that they stand for: their bits, their negation, and the five operations.
-use Prim.Native.Nat.{ℕ, zero, suc, _+_, _-_, _*_, _/_, _^_, _≤_, _<_}
+-- The machine's signed numbers are the integers that they stand for: their bits, their negation, and their sum, difference and product.
+use Prim.Native.Nat.{ℕ, zero, suc, _+_, _-_, _*_, _≤_, _<_}
 use mathlib.Core.Path.{_≡_, refl, sym, ap, _∙_}
 use mathlib.Core.Bool.{Bool, true, false, cond, not, true≢false, false≢true}
 use native.Mathlib.Omega.{arith}
-use native.Mathlib.Nat.{div-le-self, div-lt-iff-lt-mul, div-one, mod-one, mul-le-mul}
+use native.Mathlib.Nat.{mul-le-mul}
 use borrow.Author.Tests.{lt-ltb}
 use lib.Dec.{T, ltb, leb·zero}
 use lib.IntN.{ℤ, pos, negsuc, negℤ, natAbs, _+ℤ_, _-ℤ_, _*ℤ_, +ℤ-idl}
-use lib.Signed.{mag, mag-rem, natAbs-le, nonNeg, leZ, quotZ, remZ}
+use lib.Signed.{mag, natAbs-le, nonNeg, leZ}
 use mir.Syntax.{w32, w64}
 use mir.Val.{Fits, SFits, ofZ, toZ}
 use mir.Facts.{toZ-ofZ}
@@ -142,39 +142,3 @@ wide-fits op a b h f g = rw (wide-is f, wide-is g) (exact-fits op a b h f g)
 -- and are the integers'
 pub wide-exact : (op : Operation) (a b : ℤ) → T (not (divides op)) → SFits w32 a → SFits w32 b → toZ w64 (ofZ w64 (exact op (wide a) (wide b))) ≡ exact op a b
 wide-exact op a b h f g = toZ-ofZ (wide-fits op a b h f g) ∙ rw (wide-is f, wide-is g)
-
--- a quotient fits, unless the divisor is -1
-quotient-fits : (a b : ℤ) → SFits w32 a → (ofZ w32 b ≡ 4294967295 → ⊥) → SFits w32 (quotZ a b)
-quotient-fits (pos a) (pos b) f n = record { sfits = omega (arith, div-le-self a b, f .sfits) }
-quotient-fits (pos a) (negsuc b) f n = record { sfits = omega (arith, mag-negated (a / suc b), div-le-self a (suc b), f .sfits) }
-quotient-fits (negsuc a) (pos b) f n = record { sfits = omega (arith, mag-negated (suc a / b), div-le-self (suc a) b, f .sfits) }
-quotient-fits (negsuc a) (negsuc zero) f n = absurd (n refl)
-quotient-fits (negsuc a) (negsuc (suc b)) f n =
-    record { sfits = div-lt-iff-lt-mul {k = suc (suc b)} {x = suc a} {y = 2 ^ 31} (omega arith) .1 (omega (arith, f .sfits)) }
-
--- so does a remainder
-pub divided-fits : (op : Operation) (a b : ℤ) → T (divides op) → SFits w32 a → (ofZ w32 b ≡ 4294967295 → ⊥) → SFits w32 (exact op a b)
-divided-fits Sum a b h f n = absurd h
-divided-fits Difference a b h f n = absurd h
-divided-fits Product a b h f n = absurd h
-divided-fits Quotient a b h f n = quotient-fits a b f n
-divided-fits Remainder a b h f n = record { sfits = omega (arith, mag-rem a b, f .sfits) }
-
--- what the machine's quotient and remainder both ask
-pub quotient-asked : {a b : ℤ} → SFits w32 a → SFits w32 b → (ofZ w32 b ≡ 4294967295 → ⊥) → SFits w32 (quotZ (toZ w32 (ofZ w32 a)) (toZ w32 (ofZ w32 b)))
-quotient-asked {a} {b} f g n = rw (toZ-ofZ f, toZ-ofZ g) (quotient-fits a b f n)
-
--- they are the integers'
-pub divided-exact : (op : Operation) (a b : ℤ) → T (divides op) → SFits w32 a → SFits w32 b → (ofZ w32 b ≡ 4294967295 → ⊥)
-    → toZ w32 (ofZ w32 (exact op (toZ w32 (ofZ w32 a)) (toZ w32 (ofZ w32 b)))) ≡ exact op a b
-divided-exact op a b h f g n = rw (toZ-ofZ f, toZ-ofZ g) (toZ-ofZ (divided-fits op a b h f n))
-
--- a quotient by -1 is the negation
-pub quotient-minus-one : (a : ℤ) → quotZ a (negsuc 0) ≡ negℤ a
-quotient-minus-one (pos a) = rw (div-one a)
-quotient-minus-one (negsuc a) = rw (div-one (suc a))
-
--- a remainder by -1 is zero
-pub remainder-minus-one : (a : ℤ) → remZ a (negsuc 0) ≡ pos 0
-remainder-minus-one (pos a) = rw (mod-one a)
-remainder-minus-one (negsuc a) = rw (mod-one (suc a))

@@ -3,7 +3,7 @@ use Prim.Native.Nat.{ℕ, zero, suc, _-_, _≤_, _<_}
 use mathlib.Core.Path.{_≡_, refl, sym, _∙_}
 use mathlib.Core.Bool.{Bool, true, false, _&&_, false≢true}
 use native.Mathlib.Omega.{arith}
-use borrow.Author.Tests.{le-leb, lt-leb, leb-true, ltb-true, ltb-false}
+use borrow.Author.Tests.{le-leb, lt-leb, leb-true, leb-false, ltb-true, ltb-false}
 use lib.Dec.{T, leb}
 use lib.IntN.{ℤ, pos, negsuc, negℤ}
 use lib.Signed.{mag, ltZ}
@@ -36,6 +36,10 @@ in-range z h = range-is z ∙ le-leb (mag z) 2147483647 (omega arith)
 -- a larger magnitude is out of range
 pub out-of-range : (z : ℤ) → 2147483648 ≤ mag z → inRange z ≡ false
 out-of-range z h = range-is z ∙ lt-leb (mag z) 2147483647 (omega arith)
+
+-- and only a larger one
+pub beyond-range : (z : ℤ) → inRange z ≡ false → 2147483648 ≤ mag z
+beyond-range z h = leb-false (mag z) 2147483647 (sym (range-is z) ∙ h)
 
 -- a number in range fits the machine's 32 bits
 pub range-fits : (z : ℤ) → inRange z ≡ true → SFits w32 z

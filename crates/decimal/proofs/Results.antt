@@ -1,19 +1,20 @@
 -- What each branch of the operations answers is the definition's result.
-use Prim.Native.Nat.{zero, suc}
 use mathlib.Core.Path.{_≡_, refl, sym, ap, _∙_}
+use mathlib.Core.Logic.{_≢_}
 use mathlib.Core.Bool.{true, false, not}
-use lib.Dec.{T, eqb·suc-zero}
+use lib.Dec.{T}
 use lib.IntN.{ℤ, pos, negsuc, negℤ, _-ℤ_}
 use lib.Signed.{ltZ}
 use mir.Syntax.{w32, w64}
 use mir.Val.{SFits, ofZ, toZ}
 use mir.Facts.{toZ-ofZ}
 use Rattle.decimal.proofs.Ranges.{true-of, in-range, below-range, above-range, within-range, range-fits}
-use Rattle.decimal.proofs.Machine.{read-bits, negation-fits, negated-is, wide, wide-exact, divided-fits, divided-exact, quotient-minus-one, remainder-minus-one}
+use Rattle.decimal.proofs.Machine.{read-bits, negation-fits, negated-is, wide, wide-exact}
+use Rattle.decimal.proofs.Division.{quotient-only, remainder-only, divisor-some, quotient-fits, remainder-fits, quotient-minus-one, remainder-minus-one}
 use Rattle.decimal.specs.declared.operations.Operation.{Operation}
 use Rattle.decimal.specs.declared.operations.Operation.the-variants.{Sum, Difference, Product, Quotient, Remainder}
 use Rattle.decimal.specs.Operand.{inRange}
-use Rattle.decimal.specs.Arithmetic.{number, refused, exact, divides, isZero, ranged, ofNumbers}
+use Rattle.decimal.specs.Arithmetic.{Division, number, refused, exact, divides, ranged, ofNumbers}
 
 -- a number in range is its own result
 in-is-number : (z : ℤ) → inRange z ≡ true → number z ≡ ranged z
@@ -79,14 +80,22 @@ quotient-by-minus-one {a} f g e = ap ranged (ap negℤ (toZ-ofZ f) ∙ sym (quot
 pub remainder-by-minus-one : {a b : ℤ} → SFits w32 a → SFits w32 b → ofZ w32 b ≡ 4294967295 → number (pos 0) ≡ ofNumbers Remainder a b
 remainder-by-minus-one {a} f g e = ap ranged (sym (remainder-minus-one a)) ∙ rw (read-bits g e)
 
--- a divisor whose bits are not zero is not zero
-not-zero : (b : ℤ) → (ofZ w32 b ≡ 0 → ⊥) → isZero b ≡ false
-not-zero (pos zero) n = absurd (n refl)
-not-zero (pos (suc b)) n = eqb·suc-zero b
-not-zero (negsuc b) n = eqb·suc-zero b
+-- any other divisor may be handed on to `divide`
+pub tested : {b : ℤ} → SFits w32 b → (ofZ w32 b ≡ 0 → ⊥) → (ofZ w32 b ≡ 4294967295 → ⊥) → (toZ w32 (ofZ w32 b) ≢ pos 0) × (toZ w32 (ofZ w32 b) ≢ negsuc 0)
+tested g n m = rw (toZ-ofZ g) (λ e. n (ap (ofZ w32) e), λ e. m (ap (ofZ w32) e))
 
--- by any other divisor both are the machine's
-pub divided-number : (op : Operation) {a b : ℤ} → T (divides op) → SFits w32 a → SFits w32 b → (ofZ w32 b ≡ 0 → ⊥) → (ofZ w32 b ≡ 4294967295 → ⊥)
-    → number (toZ w32 (ofZ w32 (exact op (toZ w32 (ofZ w32 a)) (toZ w32 (ofZ w32 b))))) ≡ ofNumbers op a b
-divided-number op {a} {b} h f g n m =
-    ap number (divided-exact op a b h f g m) ∙ in-is-number (exact op a b) (in-range (exact op a b) (divided-fits op a b h f m .sfits)) ∙ rw (true-of (divides op) h, not-zero b n)
+-- and quotient and remainder are those of the division
+module _ {a b q r : ℤ} (f : SFits w32 a) (g : SFits w32 b) (d : Division (toZ w32 (ofZ w32 a)) (toZ w32 (ofZ w32 b)) q r) where
+  -- of the numbers themselves
+  itself : Division a b q r
+  itself = rw (toZ-ofZ f, toZ-ofZ g) at d
+
+  pub quotient-number : (ofZ w32 b ≡ 4294967295 → ⊥) → number (toZ w32 (ofZ w32 q)) ≡ ofNumbers Quotient a b
+  quotient-number m =
+      let h = quotient-fits f (λ e. m (ap (ofZ w32) e)) itself in
+      rw (toZ-ofZ h) (in-is-number q (in-range q (h .sfits)) ∙ rw (divisor-some itself, quotient-only itself))
+
+  pub remainder-number : number (toZ w32 (ofZ w32 r)) ≡ ofNumbers Remainder a b
+  remainder-number =
+      let h = remainder-fits g itself in
+      rw (toZ-ofZ h) (in-is-number r (in-range r (h .sfits)) ∙ rw (divisor-some itself, remainder-only itself))

@@ -1,22 +1,31 @@
--- Document 01, Arithmetic: what each of the five operations gives for two operands.
-use Prim.Native.Nat.{ℕ}
+-- Document 01, Arithmetic, and document 02, Seven: what each of the five operations gives for two operands.
+use Prim.Native.Nat.{ℕ, suc}
+use mathlib.Core.Path.{_≡_}
 use mathlib.Core.Bool.{Bool, true, false, cond, _&&_}
 use mathlib.Core.List.{List}
 use mathlib.Core.Option.{Option, none, some}
 use lib.Dec.{eqb}
-use lib.IntN.{ℤ, natAbs, _+ℤ_, _-ℤ_, _*ℤ_}
-use lib.Signed.{quotZ, remZ}
+use lib.IntN.{ℤ, pos, negsuc, negℤ, natAbs, _+ℤ_, _-ℤ_, _*ℤ_}
+use lib.Signed.{_≤ℤ_, _<ℤ_, shrZ}
 use Rattle.decimal.specs.declared.operations.Operation.{Operation}
 use Rattle.decimal.specs.declared.operations.Operation.the-variants.{Sum, Difference, Product, Quotient, Remainder}
 use Rattle.decimal.specs.Operand.{operand, inRange}
 
--- "The quotient is cut towards zero"
-abbrev pub quotientOf : ℤ → ℤ → ℤ
-quotientOf a b = quotZ a b
+-- Document 02, Seven: "Menu makers count a remainder from 0 up to one less than the divisor's size. Rem is to do that, and Quot
+-- is then the whole number that fits: dividend = divisor × quotient + remainder."
+pub record Division (dividend divisor quotient remainder : ℤ) : Type 0 where
+  pub fromZero : pos 0 ≤ℤ remainder
+  pub below : remainder <ℤ pos (natAbs divisor)
+  pub fits : dividend ≡ divisor *ℤ quotient +ℤ remainder
 
--- "the remainder has the dividend's sign"
+-- the quotient that fits: how often the divisor's size goes into the dividend, rounded down, with the divisor's sign
+abbrev pub quotientOf : ℤ → ℤ → ℤ
+quotientOf a (pos b) = shrZ a b
+quotientOf a (negsuc b) = negℤ (shrZ a (suc b))
+
+-- the remainder that fits
 abbrev pub remainderOf : ℤ → ℤ → ℤ
-remainderOf a b = remZ a b
+remainderOf a b = a -ℤ b *ℤ quotientOf a b
 
 -- the operation on integers, with no bound on the result
 abbrev pub exact : Operation → ℤ → ℤ → ℤ
@@ -77,3 +86,8 @@ ofOperands op first second = ofResults op (asResult first) (asResult second)
 -- the operation on two texts
 abbrev pub calculated : Operation → List ℕ → List ℕ → Result
 calculated op first second = ofOperands op (operand first) (operand second)
+
+-- two texts are operands, and the one divided by the other has this quotient and this remainder
+abbrev pub DivisionOf : List ℕ → List ℕ → ℤ → ℤ → Type 0
+DivisionOf first second quotient remainder =
+    (dividend : ℤ) × (divisor : ℤ) × (operand first ≡ some dividend) × (operand second ≡ some divisor) × Division dividend divisor quotient remainder

@@ -2,8 +2,9 @@
 use crate::reader::Operand;
 use crate::shortest::Decimal;
 ghost use mathlib.Core.Path.{_≡_};
-ghost use lib.IntN.{negℤ};
-ghost use Rattle.decimal.specs.Arithmetic.{number, refused, ofResults, ofNumbers, ranged};
+ghost use mathlib.Core.Logic.{_≢_};
+ghost use lib.IntN.{pos, negsuc, negℤ};
+ghost use Rattle.decimal.specs.Arithmetic.{Division, number, refused, ofResults, ofNumbers, ranged};
 ghost use Rattle.decimal.specs.Answers.{answerOf, resultIn};
 
 pub enum Operation {
@@ -90,7 +91,39 @@ impl Answer {
     }
 }
 
-// Cut towards zero. The only quotient out of range is that of the smallest number by -1, its negation.
+// A quotient and a remainder.
+struct Divided {
+    quotient: i32,
+    remainder: i32,
+}
+
+// The machine's quotient is cut towards zero and its remainder has the dividend's sign. Where that remainder is negative, one
+// step of the quotient raises it by the divisor's size.
+fn divide(dividend: i32, divisor: i32) -> Divided
+    requires { ⌜ (divisor ≢ pos 0) × (divisor ≢ negsuc 0) ⌝ }
+    ensures { λ r. ⌜ Division dividend divisor (r .quotient) (r .remainder) ⌝ }
+{
+    let quotient = dividend / divisor;
+    let remainder = dividend % divisor;
+    if remainder >= 0 {
+        return Divided {
+            quotient,
+            remainder,
+        };
+    }
+    if divisor > 0 {
+        return Divided {
+            quotient: quotient - 1,
+            remainder: remainder + divisor,
+        };
+    }
+    Divided {
+        quotient: quotient + 1,
+        remainder: remainder - divisor,
+    }
+}
+
+// The only quotient out of range is that of the smallest number by -1, its negation.
 fn quotient(dividend: i32, divisor: i32) -> Answer
     ensures { λ r. ⌜ r ≡ answerOf (ofNumbers Operation.Quotient dividend divisor) ⌝ }
 {
@@ -100,7 +133,8 @@ fn quotient(dividend: i32, divisor: i32) -> Answer
     if divisor == -1 {
         return negated(dividend);
     }
-    Answer::number(dividend / divisor)
+    let divided = divide(dividend, divisor);
+    Answer::number(divided.quotient)
 }
 
 fn negated(value: i32) -> Answer
@@ -112,7 +146,7 @@ fn negated(value: i32) -> Answer
     Answer::number(-value)
 }
 
-// With the dividend's sign. By -1 it is 0, also for the smallest number.
+// By -1 it is 0, also for the smallest number.
 fn remainder(dividend: i32, divisor: i32) -> Answer
     ensures { λ r. ⌜ r ≡ answerOf (ofNumbers Operation.Remainder dividend divisor) ⌝ }
 {
@@ -122,5 +156,6 @@ fn remainder(dividend: i32, divisor: i32) -> Answer
     if divisor == -1 {
         return Answer::number(0);
     }
-    Answer::number(dividend % divisor)
+    let divided = divide(dividend, divisor);
+    Answer::number(divided.remainder)
 }

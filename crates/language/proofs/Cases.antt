@@ -95,8 +95,8 @@ shared =
     ("20 before 21", "$DEF,k,<$UPDATE,k,~1;>;$k,abcdefghijklmn;", "", report 20 41 0 53 67 1) ∷
     -- arithmetic
     ("n, difference", "$-,3,5;", "-2", report 0 7 2 8 10 0) ∷
-    ("n, quotient", "$Quot,-7,2;", "-3", report 0 11 2 12 14 0) ∷
-    ("n, remainder", "$Rem,-7,2;", "-1", report 0 10 2 11 13 0) ∷
+    ("n, quotient", "$Quot,-7,2;", "-4", report 0 11 2 12 14 0) ∷
+    ("n, remainder", "$Rem,-7,2;", "1", report 0 10 1 11 13 0) ∷
     ("a plus sign", "$+,+2,1;", "3", report 0 8 1 9 11 0) ∷
     ("9 and 10", "$+,4,5;$+,5,5;", "910", report 0 14 3 15 10 0) ∷
     ("a second operand 0 of - and *", "$-,1,0;$*,1,0;", "10", report 0 14 2 15 10 0) ∷
@@ -179,6 +179,19 @@ shared =
     ("15 by UPDATE of an empty name", "$UPDATE,,x;", "", report 15 11 0 11 14 0) ∷
     ("a space is a name", "$DEF, ,v;$ ;", "v", report 0 12 1 15 12 1) ∷
     ("a script defines DEF", "$DEF,DEF,<[~1]>;$DEF,;", "[]", report 0 22 2 27 20 1) ∷
+    -- Document 02, Seven: remainders for menu wheels
+    ("Quot and Rem", "$Quot,-7,2; $Rem,-7,2; $Quot,-7,-2; $Rem,-7,-2; $Rem,-1,8; $Quot,7,-2; $Rem,7,-2;", "-4 1 4 1 7 -3 1", report 0 81 15 82 15 0) ∷
+    ("Quot and Rem at the ends of the range", "$Rem,-1,-2147483648; $Quot,-1,-2147483648; $Rem,-2147483648,-1; $Rem,-2147483648,2147483647;", "2147483647 1 0 2147483646", report 0 92 25 93 31 0) ∷
+    ("23 of Rem, a negative dividend", "$Rem,-1,0;", "", report 23 10 0 10 13 0) ∷
+    ("multiples", "$Quot,-8,2; $Rem,-8,2; $Quot,-8,-2; $Rem,-8,-2; $Quot,8,-2; $Rem,8,-2;", "-4 0 4 0 -4 0", report 0 70 13 71 15 0) ∷
+    ("one below and one above a multiple", "$Quot,-9,8; $Rem,-9,8; $Quot,-7,8; $Rem,-7,8; $Quot,-9,-8; $Rem,-9,-8; $Quot,-7,-8; $Rem,-7,-8;", "-2 7 -1 1 2 7 1 1", report 0 95 17 96 15 0) ∷
+    ("by 1 and by -1", "$Quot,-7,1; $Rem,-7,1; $Quot,-7,-1; $Rem,-7,-1; $Quot,7,-1; $Rem,7,-1;", "-7 0 7 0 -7 0", report 0 70 13 71 15 0) ∷
+    ("the smallest number divided", "$Quot,-2147483648,1; $Quot,-2147483648,2147483647; $Quot,-2147483648,-2147483648; $Rem,-2147483648,-2147483648; $Quot,-2147483648,-2; $Quot,-2147483648,3; $Rem,-2147483648,3;", "-2147483648 -2 1 0 1073741824 -715827883 1", report 0 174 42 175 33 0) ∷
+    ("the largest number divided", "$Quot,2147483647,-1; $Quot,2147483647,-2147483648; $Rem,2147483647,-2147483648; $Quot,-2147483647,-1; $Quot,-2147483647,2147483647; $Rem,-2147483647,-2147483648;", "-2147483647 0 2147483647 2147483647 -1 1", report 0 161 40 162 32 0) ∷
+    ("a wheel of eight entries, up from 0 and down from 7", "$Rem,$-,0,1;,8;$Rem,$+,7,1;,8;", "70", report 0 30 2 31 20 0) ∷
+    ("a wheel in a body", "$DEF,up,<$Rem,$-,~1,1;,8;>;$DEF,down,<$Rem,$+,~1,1;,8;>;$up,0;$down,7;$up,$up,1;;", "707", report 0 81 3 146 81 2) ∷
+    ("a wheel kept by UPDATE", "$DEF,at,0;$DEF,up,<$UPDATE,at,$Rem,$-,$at;,1;,8;;>;$up;$at;$up;$at;", "76", report 0 67 2 138 86 2) ∷
+    ("Quot and Rem collected", "$DEF,k,<[~1|~2]>;$k,$Quot,-7,2;,$Rem,-7,2;;", "[-4|1]", report 0 43 6 50 35 1) ∷
     []
 
 -- scripts with letters in the language before request One

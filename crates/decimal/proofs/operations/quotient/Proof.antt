@@ -1,11 +1,9 @@
 -- By zero it is refused, by -1 it is the negation, and by any other divisor the machine's quotient fits.
 use mathlib.Core.Path.{ap, _∙_}
-use native.Mathlib.Omega.{arith}
 use borrow.Author.Needs.{needs}
 use Rattle.decimal.specs.declared.operations.Operation.the-variants.{Quotient}
 use Rattle.decimal.specs.Answers.{answerOf}
-use Rattle.decimal.proofs.Machine.{quotient-asked}
-use Rattle.decimal.proofs.Results.{by-zero, quotient-by-minus-one, divided-number}
+use Rattle.decimal.proofs.Results.{by-zero, quotient-by-minus-one, tested, quotient-number}
 use Rattle.decimal.proofs.operations.quotient.Statement.{statement}
 use Rattle.decimal.proofs.operations.quotient.Tie as tie
 
@@ -23,19 +21,17 @@ returns-2 c =
     let f = c .before .before .before .fits in
     c .negated .ensures ∙ ap answerOf (quotient-by-minus-one (f .dividend) (f .divisor) (c .before .if2 .taken))
 
-div-number : tie.Need-div-number
-div-number c =
-    let f = c .before .before .fits in
-    (omega arith, quotient-asked (f .dividend) (f .divisor) (c .if2 .left))
+divide-requires : tie.Need-divide-requires
+divide-requires c κs = tested (c .before .before .fits .divisor) (c .before .if1 .left) (c .if2 .left)
 
 number-requires : tie.Need-number-requires
 number-requires c κs = search needs
 
 returns-3 : tie.Need-returns-3
 returns-3 c =
-    let f = c .before .before .before .fits in
-    c .number .ensures ∙ ap answerOf (divided-number Quotient tt (f .dividend) (f .divisor) (c .before .before .if1 .left) (c .before .if2 .left))
+    let f = c .before .before .before .before .before .fits in
+    c .number .ensures ∙ ap answerOf (quotient-number (f .dividend) (f .divisor) (c .before .before .divide .ensures) (c .before .before .before .if2 .left))
 
 pub quotient-spec : {M : Type 1} → statement M
 quotient-spec =
-    tie.close (tie.spec refused-requires returns negated-requires returns-2 div-number number-requires returns-3)
+    tie.close (tie.spec refused-requires returns negated-requires returns-2 divide-requires number-requires returns-3)
