@@ -10,10 +10,11 @@ import re
 SMALLEST, LARGEST = -2147483648, 2147483647
 
 NUMBERS = [
-    b'0', b'-0', b'+0', b'1', b'-1', b'2', b'-2', b'7', b'-7', b'8', b'-8', b'10', b'-10', b'+99', b'46340', b'46341', b'-46341',
+    b'0', b'-0', b'+0', b'1', b'-1', b'2', b'-2', b'7', b'-7', b'10', b'-10', b'+99', b'46340', b'46341', b'-46341',
     b'65536', b'2147483646', b'2147483647', b'+2147483647', b'-2147483647', b'-2147483648',
     b'0' * 30 + b'7', b'-' + b'0' * 30 + b'2147483648',
 ]
+WHEELS = [b'8', b'-8']
 WRONG = [
     b'', b'+', b'-', b'--1', b'+-1', b'-+1', b'1-', b'1+2', b' 1', b'1 ', b' ', b'1a', b'a', b'/', b':', b'1:', b'/1',
     b'\x80', b'\xff1', b'1\xb1', b'\x00', b'2147483648', b'-2147483649', b'4294967297', b'99999999999', b'-99999999999',
@@ -52,8 +53,9 @@ def answer(name, left, right):
 
 def cases():
     for name in ('+', '-', '*', 'Quot', 'Rem'):
-        for left in NUMBERS:
-            for right in NUMBERS:
+        numbers = NUMBERS + WHEELS if name in ('Quot', 'Rem') else NUMBERS
+        for left in numbers:
+            for right in numbers:
                 yield name, left, right
         for wrong in WRONG:
             for partner in PARTNERS:

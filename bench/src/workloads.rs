@@ -18,6 +18,7 @@ pub fn all() -> Vec<Workload> {
         nesting(500, 30),
         counting(100, 100),
         choosing(100, 100),
+        wheel(8, 1_100),
         oldest(1_000, 2_000),
         newest(1_000, 2_000),
         long_arguments(8_000, 8),
@@ -104,6 +105,26 @@ fn looping(name: &str, defined: &str, from: usize, times: usize) -> Workload {
             format!("loop({from})\n").repeat(times)
         ),
         output: format!("{counted}\n").repeat(times),
+    }
+}
+
+/// Up from each entry of a menu that comes round, so many times. m4's remainder has the dividend's sign.
+pub fn wheel(entries: usize, times: usize) -> Workload {
+    let from_each = |open: &str, close: &str| {
+        let round: String = (0..entries).map(|entry| format!("{open}{entry}{close}")).collect();
+        format!("{round}\n").repeat(times)
+    };
+    let above: String = (0..entries)
+        .map(|entry| format!("{} ", (entry + entries - 1) % entries))
+        .collect();
+    Workload {
+        name: "menu wheel".to_string(),
+        gpm: format!("$DEF,up,<$Rem,$-,~1,1;,{entries};>;{}", from_each("$up,", "; ")),
+        m4: format!(
+            "define(`up',`eval((($1-1)%{entries}+{entries})%{entries})'){}",
+            from_each("up(", ") ")
+        ),
+        output: format!("{above}\n").repeat(times),
     }
 }
 

@@ -7,7 +7,7 @@ use native.Mathlib.Omega.{arith}
 use native.Mathlib.Nat.{mul-zero, mod-lt, div-add-mod, div-le-self, div-lt-iff-lt-mul}
 use borrow.Author.Tests.{le-ltb, ltb-false}
 use lib.Dec.{leb·zero, le→leb, lt→ltb}
-use lib.IntN.{ℤ, pos, negsuc, negℤ, natAbs, _+ℤ_, _-ℤ_, _*ℤ_, negℤ-negℤ, negℤ-+ℤ, +ℤ-one, -ℤ-one, sucℤ-*ℤ, predℤ-*ℤ, *ℤ-comm, +ℤ-comm, +ℤ-assoc, +ℤ-negℤ-cancel, -ℤ-+ℤ-cancel}
+use lib.IntN.{ℤ, pos, negsuc, negℤ, natAbs, _+ℤ_, _-ℤ_, _*ℤ_, negℤ-negℤ, negℤ-+ℤ, +ℤ-one, sucℤ-*ℤ, *ℤ-comm, +ℤ-comm, +ℤ-assoc, +ℤ-negℤ-cancel, -ℤ-+ℤ-cancel}
 use lib.Signed.{_≤ℤ_, _<ℤ_, leZ, ltZ, leZ-yes, ltZ-yes, mag-rem, quotZ, remZ}
 use mir.Syntax.{w32}
 use mir.Val.{SFits, ofZ, toZ}
@@ -35,17 +35,15 @@ cut-fits (negsuc a) (pos b) =
 cut-fits (negsuc a) (negsuc b) =
     ap (λ n. negℤ (pos n)) (sym (div-add-mod (suc a) (suc b))) ∙ negℤ-+ℤ (pos (suc b * (suc a / suc b))) (pos (suc a % suc b))
 
--- a step down of the quotient raises the remainder by the divisor
-step-down : (b q r : ℤ) → b *ℤ (q -ℤ pos 1) +ℤ (r +ℤ b) ≡ b *ℤ q +ℤ r
-step-down b q r =
-    ap (λ z. z +ℤ (r +ℤ b)) (ap (λ z. b *ℤ z) (-ℤ-one q) ∙ *ℤ-comm b _ ∙ predℤ-*ℤ q b ∙ ap (λ z. z -ℤ b) (*ℤ-comm q b))
-    ∙ ap (λ z. b *ℤ q -ℤ b +ℤ z) (+ℤ-comm r b) ∙ sym (+ℤ-assoc (b *ℤ q -ℤ b) b r) ∙ ap (λ z. z +ℤ r) (-ℤ-+ℤ-cancel (b *ℤ q) b)
-
--- a step up lowers it
+-- a step up of the quotient lowers the remainder by the divisor
 step-up : (b q r : ℤ) → b *ℤ (q +ℤ pos 1) +ℤ (r -ℤ b) ≡ b *ℤ q +ℤ r
 step-up b q r =
     ap (λ z. z +ℤ (r -ℤ b)) (ap (λ z. b *ℤ z) (+ℤ-one q) ∙ *ℤ-comm b _ ∙ sucℤ-*ℤ q b ∙ ap (λ z. z +ℤ b) (*ℤ-comm q b))
     ∙ ap (λ z. b *ℤ q +ℤ b +ℤ z) (+ℤ-comm r (negℤ b)) ∙ sym (+ℤ-assoc (b *ℤ q +ℤ b) (negℤ b) r) ∙ ap (λ z. z +ℤ r) (+ℤ-negℤ-cancel (b *ℤ q) b)
+
+-- so a step down raises it
+step-down : (b q r : ℤ) → b *ℤ (q -ℤ pos 1) +ℤ (r +ℤ b) ≡ b *ℤ q +ℤ r
+step-down b q r = sym (step-up b (q -ℤ pos 1) (r +ℤ b)) ∙ rw (-ℤ-+ℤ-cancel q (pos 1), +ℤ-negℤ-cancel r b)
 
 -- a remainder that is not negative is below the divisor's size
 counted : (a b : ℤ) → 0 < natAbs b → leZ (pos 0) (remZ a b) ≡ true → remZ a b <ℤ pos (natAbs b)

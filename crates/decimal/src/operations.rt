@@ -97,8 +97,8 @@ struct Divided {
     remainder: i32,
 }
 
-// The machine's quotient is cut towards zero and its remainder has the dividend's sign. Where that remainder is negative, one
-// step of the quotient raises it by the divisor's size.
+// Document 02, Seven. The machine's quotient is cut towards zero and its remainder has the dividend's sign; where that is
+// negative, one step of the quotient raises it by the divisor's size.
 fn divide(dividend: i32, divisor: i32) -> Divided
     requires { ⌜ (divisor ≢ pos 0) × (divisor ≢ negsuc 0) ⌝ }
     ensures { λ r. ⌜ Division dividend divisor (r .quotient) (r .remainder) ⌝ }
