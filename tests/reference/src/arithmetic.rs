@@ -1,4 +1,4 @@
-//! Document 01's "Arithmetic", on decimal text.
+//! Document 01's "Arithmetic", on decimal text; Quot and Rem by document 02's request Seven.
 
 #[derive(Clone, Copy, Debug, PartialEq, Eq)]
 pub enum Operation {
@@ -21,9 +21,10 @@ pub fn reckon(operation: Operation, left: &[u8], right: &[u8]) -> Result<Vec<u8>
         Operation::Minus => left - right,
         Operation::Times => left * right,
         Operation::Quot | Operation::Rem if right == 0 => return Err(23),
-        // "The quotient is cut towards zero and the remainder has the dividend's sign", as Rust's `/` and `%` do.
-        Operation::Quot => left / right,
-        Operation::Rem => left % right,
+        // Request Seven: "a remainder from 0 up to one less than the divisor's size. Rem is to do that, and Quot is
+        // then the whole number that fits: dividend = divisor × quotient + remainder."
+        Operation::Rem => left.rem_euclid(right),
+        Operation::Quot => (left - left.rem_euclid(right)) / right,
     };
     if !(LOWEST..=HIGHEST).contains(&result) {
         return Err(24);

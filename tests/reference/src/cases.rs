@@ -1,8 +1,9 @@
-//! Scripts with known ends, worked out by hand from document 01 and document 02's requests One to Six, against both
-//! halves.
+//! Scripts with known ends, worked out by hand from document 01 and document 02's requests One to Seven, against
+//! both halves.
 mod charge_carried;
 mod keys;
 mod m6_words;
+mod menu_wheels;
 mod nameless;
 mod own_signs;
 
@@ -125,8 +126,8 @@ fn table_of_document_01() {
         ("$DEF,mk,<$DEF,m,z;>;$mk;$m;", "0 27 1 40 34 2", "z"),
         ("$DEF,k,<[~1]>;$k,a$DEF,m,z;b;", "0 29 4 34 28 1", "[ab]"),
         ("$-,3,5;", "0 7 2 8 10 0", "-2"),
-        ("$Quot,-7,2;", "0 11 2 12 14 0", "-3"),
-        ("$Rem,-7,2;", "0 10 2 11 13 0", "-1"),
+        ("$Quot,-7,2;", "0 11 2 12 14 0", "-4"),
+        ("$Rem,-7,2;", "0 10 1 11 13 0", "1"),
         ("~1", "0 2 2 3 0 0", "~1"),
         ("$a,~1;", "11 4 0 4 6 0", ""),
         ("$j;", "15 3 0 3 6 0", ""),
@@ -606,10 +607,10 @@ fn arithmetic() {
         (Times, "-0", "7", "0"),
         (Times, "46341", "-46340", "-2147441940"),
         (Times, "-2147483648", "1", "-2147483648"),
-        (Quot, "-7", "2", "-3"),
-        (Quot, "-1", "2", "0"),
+        (Quot, "-7", "2", "-4"),
+        (Quot, "-1", "2", "-1"),
         (Quot, "7", "-2", "-3"),
-        (Rem, "-7", "2", "-1"),
+        (Rem, "-7", "2", "1"),
         (Rem, "7", "-2", "1"),
         (Rem, "-2147483648", "-1", "0"),
         (

@@ -103,11 +103,13 @@ impl Grower {
 
     /// The parameters of a built-in, or all of a call, from the commas of a body, as in case f.
     pub fn handed(&mut self, _: Place) {
-        const LISTS: [&str; 10] = [
+        const LISTS: [&str; 12] = [
             "DEF,a,x",
             "+,1,2",
             "b,1",
             "-,7",
+            "Rem,-7",
+            "Quot,-9",
             "VAL,b",
             "UPDATE,b,",
             "SEQ,x,x",

@@ -1,5 +1,6 @@
 //! One check: the library's run of a script against both definitions.
 use crate::charging::{self, Course};
+use crate::dividing;
 use crate::fetching;
 use crate::giving;
 use crate::lending;
@@ -11,8 +12,8 @@ use reference::ends::{End, Report, Sort};
 use reference::scanning::{self, Lent};
 use reference::substitution::{substitute, Bounds};
 
-/// What a script's run is lent, and how it ends by scanning, with the ways that `~`, the words from M6 and empty names
-/// went and the course of the charge.
+/// What a script's run is lent, and how it ends by scanning, with the ways that `~`, the words from M6, empty names
+/// and divisions went and the course of the charge.
 pub struct Run {
     pub lent: Lent,
     pub scanned: End,
@@ -20,6 +21,7 @@ pub struct Run {
     fetching: fetching::Ways,
     giving: giving::Ways,
     names: Names,
+    dividing: dividing::Ways,
 }
 
 /// The ways that a run came to, which are counted.
@@ -28,12 +30,14 @@ pub struct Told {
     pub charging: charging::Ways,
     pub giving: giving::Ways,
     pub naming: naming::Ways,
+    pub dividing: dividing::Ways,
 }
 
 impl Run {
     pub fn new(script: &Script, lent: Lent) -> Run {
         let (mut fetching, mut giving) = (fetching::Ways::default(), giving::Ways::default());
         let (mut course, mut names) = (Course::default(), Names::default());
+        let mut dividing = dividing::Ways::default();
         let scanned = scanning::run_traced(script.checked(), &script.text, &lent, &mut |row| {
             if let Some(way) = fetching::way(row) {
                 fetching[way] = true;
@@ -41,6 +45,7 @@ impl Run {
             if let Some(way) = giving::way(row, lent.cells) {
                 giving[way] = true;
             }
+            dividing::follow(&mut dividing, row, lent.cells);
             course.follow(row);
             names.follow(row);
         });
@@ -51,6 +56,7 @@ impl Run {
             fetching,
             giving,
             names,
+            dividing,
         }
     }
 
@@ -61,6 +67,7 @@ impl Run {
             charging: self.course.ways(&self.scanned.report, with_plenty),
             giving: self.giving,
             naming: self.names.ways(),
+            dividing: self.dividing,
         }
     }
 }

@@ -2,6 +2,7 @@
 use crate::built_ins;
 use crate::grower::Place;
 use crate::letters;
+use crate::menu_wheels;
 use crate::nameless;
 use crate::numbers;
 use crate::random::Random;
@@ -28,7 +29,7 @@ pub fn planted(outcome: u64, place: Place, random: &mut Random) -> Vec<u8> {
         20 => being_read(random),
         21 => longer(random),
         22 => not_a_number(random),
-        23 => divided_by_zero(random),
+        23 => menu_wheels::by_zero(random),
         33 => nameless::refused(random),
         _ => numbers::exceeding(random),
     }
@@ -148,10 +149,4 @@ fn not_a_number(random: &mut Random) -> Vec<u8> {
         _ => (wrong, numbers::wrong(random)),
     };
     numbers::call(operation, &left, &right, random)
-}
-
-fn divided_by_zero(random: &mut Random) -> Vec<u8> {
-    let operation = random.pick(&["Quot", "Rem"]);
-    let (dividend, zero) = (numbers::literal(random).text, numbers::spelt(0, random));
-    numbers::call(operation, &dividend, &zero, random)
 }

@@ -3,6 +3,7 @@ use crate::brim;
 use crate::bulk_words;
 use crate::faults::PLANTED;
 use crate::grower::grown;
+use crate::menu_wheels;
 use crate::noise;
 use crate::own_signs;
 use crate::random::Random;
@@ -10,9 +11,10 @@ use crate::refused_signs;
 use crate::script::Script;
 use crate::soak;
 
-/// One script in so many is a soak script, one in so many comes up to the most cells that may be lent, and one in so
-/// many calls the words from M6 with thousands of bytes.
+/// One script in so many is a soak script, one in so many has a division at its end, one in so many comes up to the
+/// most cells that may be lent, and one in so many calls the words from M6 with thousands of bytes.
 const SOAKS: usize = 25;
+const DIVISIONS: usize = 25;
 const BRIMS: usize = 300;
 const BULKS: usize = 120;
 
@@ -48,18 +50,21 @@ fn text(random: &mut Random) -> Vec<u8> {
     if random.one_in(SOAKS) {
         return soak::script(random);
     }
+    if random.one_in(DIVISIONS) {
+        return menu_wheels::script(random);
+    }
     let items = size(random);
     match random.below(100) {
         0..=9 => noise::raw(random, 3 * items),
-        10..=35 => {
+        10..=37 => {
             let fault = PLANTED[random.below(PLANTED.len())];
             grown(random, items, Some(fault))
         }
-        36..=43 => {
+        38..=45 => {
             let script = grown(random, items, None);
             noise::edited(script, random)
         }
-        44..=47 => {
+        46..=49 => {
             let script = grown(random, items, None);
             noise::cut(script, random)
         }

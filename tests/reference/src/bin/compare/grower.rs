@@ -3,6 +3,7 @@
 use crate::faults;
 use crate::letters;
 use crate::m6_words;
+use crate::menu_wheels;
 use crate::nameless;
 use crate::numbers;
 use crate::random::Random;
@@ -68,7 +69,7 @@ pub struct Known {
 type Weights = [usize; 3];
 type Item = fn(&mut Grower, Place);
 
-const ITEMS: [(Weights, Item); 27] = [
+const ITEMS: [(Weights, Item); 29] = [
     ([100, 150, 120], Grower::word),
     ([160, 60, 60], Grower::definition),
     ([260, 150, 220], Grower::call),
@@ -77,6 +78,8 @@ const ITEMS: [(Weights, Item); 27] = [
     ([40, 40, 40], Grower::value),
     ([60, 30, 50], Grower::update),
     ([40, 50, 50], Grower::arithmetic),
+    ([30, 40, 40], menu_wheels::division),
+    ([14, 8, 8], menu_wheels::wheel),
     ([30, 30, 30], m6_words::compared),
     ([25, 25, 25], m6_words::measured),
     ([50, 50, 50], m6_words::chosen),

@@ -1,9 +1,10 @@
 //! Numbers in every spelling, and calls of the arithmetic whose results are in range.
 use crate::built_ins::{surplus, ARITHMETIC};
+use crate::menu_wheels;
 use crate::random::Random;
 
-const SMALLEST: i64 = -2_147_483_648;
-const LARGEST: i64 = 2_147_483_647;
+pub const SMALLEST: i64 = -2_147_483_648;
+pub const LARGEST: i64 = 2_147_483_647;
 
 /// A text that stands for a number, and the number.
 pub struct Number {
@@ -15,12 +16,21 @@ pub fn in_range(value: i64) -> bool {
     (SMALLEST..=LARGEST).contains(&value)
 }
 
-fn value(random: &mut Random) -> i64 {
+/// An end of the range, or a number beside it.
+pub fn about_an_end(random: &mut Random) -> i64 {
+    let beside = random.between(0, 2) as i64;
+    if random.one_in(2) {
+        SMALLEST + beside
+    } else {
+        LARGEST - beside
+    }
+}
+
+pub fn value(random: &mut Random) -> i64 {
     match random.below(10) {
         0..=5 => random.between(0, 24) as i64 - 9,
         6 => random.between(0, 200_000) as i64 - 100_000,
-        7 => SMALLEST + random.between(0, 2) as i64,
-        8 => LARGEST - random.between(0, 2) as i64,
+        7..=8 => about_an_end(random),
         _ => i64::from(random.next() as i32),
     }
 }
@@ -46,13 +56,14 @@ pub fn literal(random: &mut Random) -> Number {
     }
 }
 
-fn result(operation: &str, left: i64, right: i64) -> Option<i64> {
+/// What a call gives; none where it is refused.
+pub fn result(operation: &str, left: i64, right: i64) -> Option<i64> {
     let value = match operation {
         "+" => left + right,
         "-" => left - right,
         "*" => left * right,
-        "Quot" => left.checked_div(right)?,
-        _ => left.checked_rem(right)?,
+        "Quot" => left.checked_div_euclid(right)?,
+        _ => left.checked_rem_euclid(right)?,
     };
     Some(value).filter(|&value| in_range(value))
 }
@@ -63,10 +74,10 @@ pub fn call(operation: &str, left: &[u8], right: &[u8], random: &mut Random) -> 
 }
 
 fn operand(random: &mut Random, depth: usize) -> Number {
-    if depth > 0 && random.one_in(4) {
-        computed(random, depth - 1)
-    } else {
-        literal(random)
+    match random.below(8) {
+        0..=1 if depth > 0 => computed(random, depth - 1),
+        2 if depth > 0 => menu_wheels::divided(random),
+        _ => literal(random),
     }
 }
 
@@ -98,7 +109,7 @@ pub fn exceeding(random: &mut Random) -> Vec<u8> {
         2 => ("-", SMALLEST - 1 + distance, distance),
         3 => ("-", distance - 1, SMALLEST),
         4 => ("*", 46_340 + distance, -46_341 - distance),
-        _ => ("Quot", SMALLEST, -1),
+        _ => return menu_wheels::out_of_range(random),
     };
     let (left, right) = (spelt(left, random), spelt(right, random));
     call(operation, &left, &right, random)

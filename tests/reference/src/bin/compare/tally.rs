@@ -1,7 +1,8 @@
-//! How often each outcome was come to, each way that `~`, the charge, the words from M6 and empty names went, and each
-//! row about signs that are lent and about keys.
+//! How often each outcome was come to, each way that `~`, the charge, the words from M6, empty names and divisions
+//! went, and each row about signs that are lent and about keys.
 use crate::charging;
 use crate::check::Told;
+use crate::dividing;
 use crate::fetching;
 use crate::giving;
 use crate::keying::{self, CALLS, RUNS};
@@ -17,11 +18,13 @@ const OUTCOMES: usize = 35;
 /// The outcome of a call for keys that no run has.
 const NONE: usize = 34;
 /// The ways of `~` are counted in the places after the outcomes, then those of the charge, those of the words from M6,
-/// those of empty names, then the rows of signs, those of calls for keys and those of the runs of their scripts.
+/// those of empty names, those of divisions, then the rows of signs, those of calls for keys and those of the runs of
+/// their scripts.
 const FIRST_OF_CHARGE: usize = OUTCOMES + fetching::WAYS.len();
 const FIRST_OF_WORDS: usize = FIRST_OF_CHARGE + charging::WAYS.len();
 const FIRST_OF_NAMES: usize = FIRST_OF_WORDS + giving::WAYS.len();
-const FIRST_ROW: usize = FIRST_OF_NAMES + naming::WAYS.len();
+const FIRST_OF_DIVISIONS: usize = FIRST_OF_NAMES + naming::WAYS.len();
+const FIRST_ROW: usize = FIRST_OF_DIVISIONS + dividing::WAYS.len();
 const FIRST_OF_CALLS: usize = FIRST_ROW + ROWS.len();
 const FIRST_OF_RUNS: usize = FIRST_OF_CALLS + CALLS.len();
 const PLACES: usize = FIRST_OF_RUNS + RUNS.len();
@@ -42,6 +45,7 @@ fn label(place: usize) -> String {
         FIRST_OF_RUNS.. => RUNS[place - FIRST_OF_RUNS].0.to_string(),
         FIRST_OF_CALLS.. => CALLS[place - FIRST_OF_CALLS].0.to_string(),
         FIRST_ROW.. => ROWS[place - FIRST_ROW].0.to_string(),
+        FIRST_OF_DIVISIONS.. => dividing::WAYS[place - FIRST_OF_DIVISIONS].0.to_string(),
         FIRST_OF_NAMES.. => naming::WAYS[place - FIRST_OF_NAMES].to_string(),
         FIRST_OF_WORDS.. => giving::WAYS[place - FIRST_OF_WORDS].to_string(),
         FIRST_OF_CHARGE.. => charging::WAYS[place - FIRST_OF_CHARGE].to_string(),
@@ -62,6 +66,7 @@ fn places<'a>(script: &'a Script, report: &'a Report, told: &'a Told) -> impl It
         .chain(places_of(&told.charging, FIRST_OF_CHARGE))
         .chain(places_of(&told.giving, FIRST_OF_WORDS))
         .chain(places_of(&told.naming, FIRST_OF_NAMES))
+        .chain(places_of(&told.dividing, FIRST_OF_DIVISIONS))
         .chain(rows.map(|row| FIRST_ROW + row))
         .chain([report.outcome as usize])
 }
