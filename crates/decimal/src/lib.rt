@@ -1,5 +1,5 @@
-// Signed 32-bit arithmetic on decimal text: document 01, Arithmetic. The call takes two operands as bytes of
-// any length and answers the outcome and the shortest decimal of the result.
+// Signed 32-bit arithmetic on decimal text: document 01, Arithmetic, and document 02, Seven. The call takes two operands
+// as bytes of any length and answers the outcome and the shortest decimal of the result.
 pub mod operations;
 pub mod reader;
 pub mod shortest;
