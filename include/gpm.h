@@ -2,10 +2,11 @@
  * Vuzhatten: Strachey's General Purpose Macrogenerator in lent memory, for C11 and C++17 on x86-64.
  *
  * One call expands one text: gpm_expand with the standard signs $ , ; ~ < >, gpm_expand_signs with signs of the
- * caller's own. The other way, gpm_script makes a text that expands to given keys. A call allocates nothing, keeps
- * nothing between calls and calls nothing of the operating system; calls on memory of their own may run at the same
- * time. It always returns, one that expands after at most `allowance` scans. What it reports and leaves is proved, for
- * every text, all signs, all keys and all lent memory, where the caller keeps what "The caller" asks below.
+ * caller's own, gpm_expand_origins likewise and with where each byte of the output came from. The other way, gpm_script
+ * makes a text that expands to given keys. A call allocates nothing, keeps nothing between calls and calls nothing of
+ * the operating system; calls on memory of their own may run at the same time. It always returns, one that expands
+ * after at most `allowance` scans. What it reports and leaves is proved, for every text, all signs, all keys and all
+ * lent memory, where the caller keeps what "The caller" asks below.
  */
 #ifndef GPM_H
 #define GPM_H
@@ -24,7 +25,7 @@ extern "C" {
 #define GPM_WANTED_LIMIT 65534 /* keys wanted of gpm_script: their script has two bytes more */
 
 /* How a run ended. 0 and 1 finish it, 2 to 5 are about what was lent, 10 to 24 and 33 are faults of the text, and 30 to
- * 32 refuse signs; 34 is gpm_script's alone. Below the standard signs stand for those in force. */
+ * 32 refuse signs; 34 is gpm_script's alone, 35 gpm_expand_origins's. Below the standard signs stand for those in force. */
 enum gpm_outcome {
     GPM_FINISHED = 0,             /* the text ended outside quotes and calls */
     GPM_FINISHED_AT_QUOTE = 1,    /* an unquoted > in the text, no call being collected; the rest is unread */
@@ -51,7 +52,8 @@ enum gpm_outcome {
     GPM_SIGN_NOT_ONE_BYTE = 31,   /* a kind from 1 to 6 is that of no byte or of several: the same */
     GPM_RESERVED_SIGN = 32,       /* a letter, a digit, +, - or * is a sign: the same */
     GPM_EMPTY_NAME = 33,          /* DEF of an empty name */
-    GPM_NO_SCRIPT = 34            /* no script of any length gives the wanted keys: their quotes do not match */
+    GPM_NO_SCRIPT = 34,           /* no script of any length gives the wanted keys: their quotes do not match */
+    GPM_NUMBERS_TOO_SHORT = 35    /* origins or rules shorter than the output lent: all counts 0, nothing touched */
 };
 
 /* The name of 12 before letters stood for parameters, for programs that have it. */
@@ -130,6 +132,36 @@ gpm_report gpm_expand(const uint8_t *text, size_t text_length, uint32_t *cells, 
 gpm_report gpm_expand_signs(const uint8_t *signs, size_t signs_length, const uint8_t *text, size_t text_length,
                             uint32_t *cells, size_t cells_length, uint8_t *output, size_t output_length,
                             uint64_t allowance);
+
+/* By which rule a byte of the output was written. */
+enum gpm_rule {
+    GPM_COPIED_FROM_TEXT = 1,    /* copied from the text, quoted or not, also a , ; or ~ that is copied */
+    GPM_COPIED_FROM_BODY = 2,    /* copied from the body of a definition */
+    GPM_FETCHED = 3,             /* fetched by ~, whichever the parameter */
+    GPM_GIVEN_BY_VAL = 4,        /* given by VAL */
+    GPM_GIVEN_BY_BUILT_IN = 5    /* given by another built-in */
+};
+
+/*
+ * The same as gpm_expand_signs, and for each byte of the output where it came from.
+ *
+ * Report, output and cells are those of gpm_expand_signs. For each of the first report.written places, origins holds the
+ * bytes of the text read by the end of the scan that wrote the output byte at that place, and rules holds one of
+ * enum gpm_rule. So the byte of the text behind it is text[origins[i] - 1]: the byte itself where it was copied from the
+ * text, and else the ; of the outermost call in which it was written. Origins never fall from place to place, are at
+ * least 1 and are at most report.read. The places behind these are as they were in both.
+ *
+ * The checks are made in the order 2, 30, 31, 32, 35, and the first that holds is the outcome, with all counts 0 and
+ * nothing touched. origins and rules may be longer than the output, and what they hold before does not matter.
+ *
+ * The caller: as above; origins and rules point to as many numbers as their lengths say, and not to NULL, and lie at
+ * multiples of 4; none of the six overlaps another, but that signs and text may; nothing else reads or writes origins
+ * and rules before the call returns.
+ */
+gpm_report gpm_expand_origins(const uint8_t *signs, size_t signs_length, const uint8_t *text, size_t text_length,
+                              uint32_t *cells, size_t cells_length, uint8_t *output, size_t output_length,
+                              uint32_t *origins, size_t origins_length, uint32_t *rules, size_t rules_length,
+                              uint64_t allowance);
 
 /*
  * Writes a script for the wanted bytes, with the standard signs: one that expands to exactly these bytes. It is the

@@ -8,7 +8,7 @@ use mathlib.Core.Option.{none, some}
 use lib.ListN.{length}
 use lib.Dec.{eqb, leb, ltb}
 use borrow.Author.Tests.{ltb-false}
-use Rattle.memory.specs.Block.{zeros}
+use Rattle.memory.specs.Block.{repeated}
 use Rattle.language.specs.Signs.{Bytes, Table, language, textLimit, cellsLimit, outputLimit}
 use Rattle.language.specs.Outcomes
 use Rattle.language.specs.Refusals.{refusedBy, sizesTooLarge, AcceptedTable}
@@ -97,16 +97,16 @@ ran T text allowance m st m′ h small oct fits =
 
 -- The report ---------------------------------------------------------------------------------------------------------
 
-clearedIs : (l : List ℕ) → zeros (length l) ≡ cleared l
-unfolding zeros cleared
+clearedIs : (l : List ℕ) → repeated (length l) 0 ≡ cleared l
+unfolding repeated cleared
 clearedIs [] = refl
 clearedIs (x ∷ l) = ap (λ (y : List ℕ). 0 ∷ y) (clearedIs l)
 
 pub reports : (g : Given) {st : Stepped} {m : Lent} → Ran g st m → length (m .cells) ≡ length (g .lent .cells) → refusedBy (refusals g) ≡ none
-    → returned (reportOf st) (lent (zeros (length (m .cells))) (m .output)) ≡ expanded g
+    → returned (reportOf st) (lent (repeated (length (m .cells)) 0) (m .output)) ≡ expanded g
 unfolding expanded
 reports g {st} {m} h size accepted =
-    let zeroed : zeros (length (m .cells)) ≡ cleared (g .lent .cells) = ap zeros size ∙ clearedIs (g .lent .cells) in
+    let zeroed : repeated (length (m .cells)) 0 ≡ cleared (g .lent .cells) = ap (λ (n : ℕ). repeated n 0) size ∙ clearedIs (g .lent .cells) in
     let told : numbers (reportOf st) ≡ reported (ending g) = h .reports ∙ ap reported (h .scanned) in
     let left : m .output ≡ overwritten (ending g .output) (g .lent .output) = h .left ∙ ap (λ (x : End). overwritten (x .output) (g .lent .output)) (h .scanned) in
     rw (accepted, told, left, zeroed) refl

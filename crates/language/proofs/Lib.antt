@@ -13,5 +13,6 @@ pub mod Names
 pub mod Limits
 pub mod Letters
 pub mod Demand
+pub mod Origins
 pub mod Table
 pub mod Cases

@@ -13,3 +13,4 @@ pub mod Octets
 pub mod Names
 pub mod Expansion
 pub mod Demand
+pub mod Origins

@@ -77,6 +77,10 @@ emptyName = 33
 abbrev pub noScript : ℕ
 noScript = 34
 
+-- Document 02, Eight: a refusal of a call
+abbrev pub numbersTooShort : ℕ
+numbersTooShort = 35
+
 -- "A run finishes with 0 or 1"
 abbrev pub finishes : ℕ → Bool
 finishes n = eqb n finished || eqb n finishedAtQuote

@@ -44,3 +44,5 @@ pub const RESERVED_SIGN: u32 = 32;
 pub const EMPTY_NAME: u32 = 33;
 
 pub const NO_SCRIPT: u32 = 34;
+
+pub const NUMBERS_TOO_SHORT: u32 = 35;

@@ -1,4 +1,4 @@
--- The laws of blocks, of the low bytes, of `same` and of `zeros`, and how far a copy or a comparison has come after some turns of its loop.
+-- The laws of blocks, of the low bytes, of `same` and of `repeated`, and how far a copy or a comparison has come after some turns of its loop.
 -- Of a single store, `lib.ListN` has `length-set`, and `lib.Seq` has `take-set-le`, `drop-set-lt` and `set-out`.
 use Prim.Native.Nat.{ℕ, zero, suc, _+_, _-_, _%_, _≤_, _<_}
 use mathlib.Core.Path.{_≡_, refl, sym, ap, _∙_}
@@ -11,7 +11,7 @@ use borrow.Author.Tests.{not-true, not-false, le-leb, lt-leb, leb-true, eqb-true
 use lib.ListN.{length, take, drop, getD, set, length-set, length-append, length-drop, take-append-drop, drop-of-length-le}
 use lib.Seq.{drop-cons, take-suc, take-suc-set, take-set-lt, set-append-left, set-at, getD-set-same, drop-set-lt, getD-take, getD-drop, take-at, drop-at, length-take-le, take-all}
 use lib.Dec.{eqb, leb}
-use Rattle.memory.specs.Block.{within, block, placed, copied, moved, lowBytes, same, sameBlocks, sameBytes, zeros}
+use Rattle.memory.specs.Block.{within, block, placed, copied, moved, lowBytes, same, sameBlocks, sameBytes, repeated, filled}
 
 -- ---- a test that is asked by a call, as `if !lies_within(..)`
 
@@ -399,17 +399,23 @@ module _ {first second count : ℕ} {l m : List ℕ} where
       let e : done ≡ count = omega arith in
       eq-same (block first count l) (block second count m) (rw e at (r .so-far))
 
--- ---- zeros
+-- ---- repeated
 
--- as many zeros as asked for
-pub length-zeros : (n : ℕ) → length (zeros n) ≡ n
-unfolding zeros
-length-zeros zero = refl
-length-zeros (suc n) = ap suc (length-zeros n)
+-- as many as asked for
+pub length-repeated : (n x : ℕ) → length (repeated n x) ≡ n
+unfolding repeated
+length-repeated zero x = refl
+length-repeated (suc n) x = ap suc (length-repeated n x)
 
--- each of them 0
-pub getD-zeros : (n k : ℕ) → getD (zeros n) k 0 ≡ 0
-unfolding zeros
-getD-zeros zero k = refl
-getD-zeros (suc n) zero = refl
-getD-zeros (suc n) (suc k) = getD-zeros n k
+-- each of them the number
+pub getD-repeated : (n x k : ℕ) → k < n → getD (repeated n x) k 0 ≡ x
+unfolding repeated
+getD-repeated zero x k h = absurd (omega arith)
+getD-repeated (suc n) x zero h = refl
+getD-repeated (suc n) x (suc k) h = getD-repeated n x k (omega arith)
+
+-- in place of elements that are there
+pub filled-in : (to count x : ℕ) (l : List ℕ) → to + count ≤ length l → filled to count x l ≡ placed to (repeated count x) l
+filled-in to count x l h =
+    let z = length-repeated count x in
+    copied-in 0 to count (repeated count x) l (omega arith) h ∙ ap (λ (p : List ℕ). placed to p l) (take-all count (repeated count x) (omega arith))

@@ -43,6 +43,11 @@ sameBlocks first second count l = (within first count l && within second count l
 abbrev pub sameBytes : ℕ → ℕ → List ℕ → List ℕ → Bool
 sameBytes from count bytes l = within from count l && same (block from count l) bytes
 
-unfoldable pub zeros : ℕ → List ℕ
-zeros zero = []
-zeros (suc n) = 0 ∷ zeros n
+-- so many times the same number
+unfoldable pub repeated : ℕ → ℕ → List ℕ
+repeated zero x = []
+repeated (suc n) x = x ∷ repeated n x
+
+-- the list with that in place of its elements from `to` on
+abbrev pub filled : ℕ → ℕ → ℕ → List ℕ → List ℕ
+filled to count x l = copied 0 to count (repeated count x) l

@@ -5,7 +5,7 @@ ghost use mathlib.Core.Bool.{_&&_};
 ghost use Prim.Native.Nat.{_+_, _≤_};
 ghost use lib.ListN.{length, getD, set};
 ghost use lib.Dec.{leb};
-ghost use Rattle.memory.specs.Block.{moved, copied, lowBytes, sameBlocks, sameBytes, zeros};
+ghost use Rattle.memory.specs.Block.{moved, copied, lowBytes, sameBlocks, sameBytes, repeated, filled};
 
 // The cell at a position, and 0 outside.
 pub fn read(cells: &[u32], at: usize) -> u32
@@ -166,13 +166,24 @@ pub fn same_bytes(cells: &[u32], from: usize, count: usize, bytes: &[u8]) -> boo
     true
 }
 
-// All cells zero.
-pub fn clear(cells: &mut [u32])
-    ensures { λ _. ⌜ now (cells .exit) ≡ zeros (length (now (cells .entry))) ⌝ }
+// So many cells from a position on, each of them this value.
+pub fn fill(cells: &mut [u32], to: usize, count: usize, value: u32)
+    ensures { λ _. ⌜ now (cells .exit) ≡ filled to count value (now (cells .entry)) ⌝ }
 {
+    if !lies_within(to, count, cells.len()) {
+        return;
+    }
     let mut done = 0;
-    while done < cells.len() {
-        cells[done] = 0;
+    while done < count {
+        cells[to + done] = value;
         done += 1;
     }
+}
+
+// All cells zero.
+pub fn clear(cells: &mut [u32])
+    ensures { λ _. ⌜ now (cells .exit) ≡ repeated (length (now (cells .entry))) 0 ⌝ }
+{
+    let count = cells.len();
+    fill(cells, 0, count, 0);
 }
