@@ -5,7 +5,7 @@ use native.Mathlib.Omega.{arith}
 use native.Mathlib.Nat.{le-refl, le-trans}
 use mathlib.Core.Path.{_≡_, refl, sym, ap, subst, _∙_}
 use mathlib.Core.Bool.{Bool, true, false, cond}
-use mathlib.Core.List.{List, [], _∷_, _++_, append-nil, append-assoc}
+use mathlib.Core.List.{List, [], _∷_, _++_, append-nil, append-assoc, map-append}
 use mathlib.Core.Option.{Option, none, some}
 use lib.ListN.{length, take, drop, length-append, length-drop}
 use lib.Seq.{drop-drop}
@@ -323,13 +323,7 @@ scan-writes L G s = from-writes L G s (s .bodies) refl (s .text) refl refl
 
 -- Runs ---------------------------------------------------------------------------------------------------------------
 
-bytes-append : (ps os : List Origin) → bytesOf (ps ++ os) ≡ bytesOf ps ++ bytesOf os
-unfolding bytesOf
-bytes-append [] os = refl
-bytes-append (p ∷ ps) os = ap (λ (y : Bytes). p .byte ∷ y) (bytes-append ps os)
-
 each-bytes : (read rule : ℕ) (bs : Bytes) → bytesOf (each read rule bs) ≡ bs
-unfolding bytesOf each
 each-bytes read rule [] = refl
 each-bytes read rule (b ∷ bs) = ap (λ (y : Bytes). b ∷ y) (each-bytes read rule bs)
 
@@ -339,7 +333,6 @@ rising-from h (over p) = over (le-trans h p)
 rising-from h (rises p more) = rises (le-trans h p) more
 
 each-rising : (read rule : ℕ) (bs : Bytes) {os : List Origin} {low high : ℕ} → low ≤ read → Rising read os high → Rising low (each read rule bs ++ os) high
-unfolding each
 each-rising read rule [] h p = rising-from h p
 each-rising read rule (b ∷ bs) h p = rises h (each-rising read rule bs (omega arith) p)
 
@@ -358,14 +351,12 @@ rising-most (over p) = empty
 rising-most (rises p more) = with (rising-ends more) (rising-most more)
 
 each-all : {P : Origin → Type 0} (read rule : ℕ) → ((b : ℕ) → P (record { byte = b; read = read; rule = rule })) → (bs : Bytes) → All P (each read rule bs)
-unfolding each
 each-all read rule p [] = empty
 each-all read rule p (b ∷ bs) = with (p b) (each-all read rule p bs)
 
 -- one byte that stands in the text, or bytes by another rule
 each-text : (text : Bytes) (read rule : ℕ) (bs : Bytes) → (rule ≡ Origins.copiedFromText → (bs ≡ take 1 (drop (read - 1) text)) × (length bs ≡ 1))
     → All (FromText text) (each read rule bs)
-unfolding each
 each-text text read rule [] h = empty
 each-text text read rule (b ∷ []) h = with (λ e. sym (h e .0)) empty
 each-text text read rule (b ∷ c ∷ bs) h = each-all read rule (λ x e. let long = h e .1 in absurd (omega arith)) (b ∷ c ∷ bs)
@@ -373,7 +364,6 @@ each-text text read rule (b ∷ c ∷ bs) h = each-all read rule (λ x e. let lo
 module _ (L : Limits) (G : Language) where
   -- what one scan adds, and where it leaves the count of bytes read
   added : (s : State) {x : Step} → Leads (Scanned G s) (Refuses s) x → S.endOf x .output ≡ s .standing .output ++ bytesOf (scanOrigins (writes G s) x)
-  unfolding bytesOf
   added s (goesOn {s = s₁} a) = a .output ∙ ap (λ (y : Bytes). s .standing .output ++ y) (go (writes G s))
     where
       go : (w : Option Writes) → bytesIn w ≡ bytesOf (scanOrigins w (next s₁))
@@ -386,7 +376,7 @@ module _ (L : Limits) (G : Language) where
       go (some w) = refl
 
   left-out : (n : ℕ) (x : Step) → S.endOf (S.scans L G n x) .output ≡ S.endOf x .output ++ bytesOf (originsFrom L G n x)
-  unfolding S.scans originsFrom bytesOf
+  unfolding S.scans originsFrom
   left-out zero x = sym (append-nil (S.endOf x .output))
   left-out (suc n) (stop e) = sym (append-nil (e .output))
   left-out (suc n) (next s) =
@@ -395,13 +385,13 @@ module _ (L : Limits) (G : Language) where
       left-out n x
       ∙ ap (λ (y : Bytes). y ++ bytesOf (originsFrom L G n x)) (added s (scan-writes L G s))
       ∙ append-assoc (s .standing .output) (bytesOf os) (bytesOf (originsFrom L G n x))
-      ∙ ap (λ (y : Bytes). s .standing .output ++ y) (sym (bytes-append os (originsFrom L G n x)))
+      ∙ ap (λ (y : Bytes). s .standing .output ++ y) (sym (map-append (λ (o : Origin). o .byte) os (originsFrom L G n x)))
 
-  none-at-end : (w : Option Writes) (e : End) → scanOrigins w (stop e) ≡ []
+  pub none-at-end : (w : Option Writes) (e : End) → scanOrigins w (stop e) ≡ []
   none-at-end none e = refl
   none-at-end (some w) e = refl
 
-  origins-stop : (n : ℕ) (e : End) → originsFrom L G n (stop e) ≡ []
+  pub origins-stop : (n : ℕ) (e : End) → originsFrom L G n (stop e) ≡ []
   unfolding originsFrom
   origins-stop zero e = refl
   origins-stop (suc n) e = refl
@@ -485,7 +475,7 @@ module _ (g : Given) where
 
   -- The origins of a run are those of its output: left out, they leave the ordinary run.
   pub origins-left-out : bytesOf (origins g) ≡ ending g .output
-  unfolding S.run bytesOf
+  unfolding S.run
   origins-left-out = sym (left-out L (language (g .table)) (g .allowance) (next first))
 
   -- They never fall, and are at most the bytes read,

@@ -2,7 +2,7 @@
 use Prim.Native.Nat.{ℕ, zero, suc, _-_, _≤_}
 use mathlib.Core.Path.{_≡_}
 use mathlib.Core.Bool.{Bool, false, cond, _||_}
-use mathlib.Core.List.{List, [], _∷_, _++_}
+use mathlib.Core.List.{List, [], _∷_, _++_, map}
 use mathlib.Core.Option.{Option, none, some}
 use lib.ListN.{length, take, drop}
 use lib.Dec.{ltb}
@@ -132,9 +132,8 @@ pub record Origin : Type 0 where
   pub read : ℕ
   pub rule : ℕ
 
-unfoldable pub each : ℕ → ℕ → Bytes → List Origin
-each read rule [] = []
-each read rule (b ∷ bs) = record { byte = b; read = read; rule = rule } ∷ each read rule bs
+abbrev pub each : ℕ → ℕ → Bytes → List Origin
+each read rule bs = map (λ b. record { byte = b; read = read; rule = rule }) bs
 
 -- of one scan, by what it came to
 abbrev pub scanOrigins : Option Writes → Step → List Origin
@@ -152,17 +151,14 @@ originsFrom L G (suc n) (next s) = scanOrigins (writes G s) (scan L G s) ++ orig
 abbrev pub origins : Given → List Origin
 origins g = originsFrom (limitsOf (length (g .lent .cells)) (length (g .lent .output))) (language (g .table)) (g .allowance) (next (start (g .text) (g .definitions)))
 
-unfoldable pub bytesOf : List Origin → Bytes
-bytesOf [] = []
-bytesOf (o ∷ os) = o .byte ∷ bytesOf os
+abbrev pub bytesOf : List Origin → Bytes
+bytesOf os = map (λ o. o .byte) os
 
-unfoldable pub readsOf : List Origin → List ℕ
-readsOf [] = []
-readsOf (o ∷ os) = o .read ∷ readsOf os
+abbrev pub readsOf : List Origin → List ℕ
+readsOf os = map (λ o. o .read) os
 
-unfoldable pub rulesOf : List Origin → List ℕ
-rulesOf [] = []
-rulesOf (o ∷ os) = o .rule ∷ rulesOf os
+abbrev pub rulesOf : List Origin → List ℕ
+rulesOf os = map (λ o. o .rule) os
 
 -- their counts of bytes read never fall, from `low` on, and are at most `high`
 pub data Rising : ℕ → List Origin → ℕ → Type 0 where

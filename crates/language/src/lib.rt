@@ -1,8 +1,9 @@
-// The signs, the limits, the refusals, the outcomes and the built-ins of documents 01 and 02 as values of the code. The rest of
-// this crate is definitions and theorems.
+// The signs, the limits, the refusals, the outcomes, the built-ins and the rules of documents 01 and 02 as values of the code. The
+// rest of this crate is definitions and theorems.
 pub mod built_ins;
 pub mod outcomes;
 pub mod refusals;
+pub mod rules;
 
 ghost use mathlib.Core.Path.{_≡_};
 ghost use Rattle.language.specs.Signs.{standard};

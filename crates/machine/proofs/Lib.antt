@@ -23,6 +23,8 @@ pub mod Defining
 pub mod Giving
 pub mod Performing
 pub mod Simulating
+pub mod Rules
+pub mod Noting
 pub mod Keeping
 pub mod Steps
 pub mod Advancing

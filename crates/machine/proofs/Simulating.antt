@@ -42,13 +42,13 @@ noted m h = record { text = h .text; calls = h .calls; bodies = h .bodies; defin
 scannedOctets : {s : State} → HoldsOctets s → HoldsOctets (S.counting 0 s)
 scannedOctets h = record { text = h .text; calls = h .calls; bodies = h .bodies; definitions = h .definitions; output = h .output }
 
-firstOctet : {x : ℕ} {t : Bytes} → Octets (x ∷ t) → x < 256
+pub firstOctet : {x : ℕ} {t : Bytes} → Octets (x ∷ t) → x < 256
 firstOctet (with x h) = x
 
 restOctets : {x : ℕ} {t : Bytes} → Octets (x ∷ t) → Octets t
 restOctets (with x h) = h
 
-innermostOctets : {B : Body} {Bs : List Body} → All BodyOctets (B ∷ Bs) → BodyOctets B
+pub innermostOctets : {B : Body} {Bs : List Body} → All BodyOctets (B ∷ Bs) → BodyOctets B
 innermostOctets (with x h) = x
 
 module _ {n : ℕ} {whole start : List ℕ} {r : Run} {l o : List ℕ} {s : State}

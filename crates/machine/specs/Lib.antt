@@ -5,3 +5,4 @@ pub mod Frames
 pub mod Held
 pub mod Moving
 pub mod Carried
+pub mod Origins

@@ -5,6 +5,7 @@ mod give;
 mod layout;
 mod lookup;
 mod operands;
+pub mod origins;
 mod put;
 pub mod run;
 mod scan;

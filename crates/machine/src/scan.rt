@@ -138,7 +138,7 @@ fn quotes_after(quotes: usize, kind: u8) -> usize
     quotes
 }
 
-fn kind(kinds: &[u8; 256], byte: u8) -> u8
+pub(crate) fn kind(kinds: &[u8; 256], byte: u8) -> u8
     ensures { λ r. ⌜ r ≡ getD (now (kinds .entry)) byte 0 ⌝ }
 {
     kinds[byte as usize]

@@ -9,7 +9,7 @@ use native.Mathlib.Nat.{mod-eq-of-lt}
 use native.Mathlib.Numerals.{add-one}
 use borrow.Author.Tests.{not-true, not-false, le-leb, lt-leb, leb-true, eqb-true, eq-eqb}
 use lib.ListN.{length, take, drop, getD, set, length-set, length-append, length-drop, take-append-drop, drop-of-length-le}
-use lib.Seq.{drop-cons, take-suc, take-suc-set, take-set-lt, set-append-left, set-at, getD-set-same, drop-set-lt, getD-take, getD-drop, take-at, drop-at, length-take-le, take-all}
+use lib.Seq.{drop-cons, take-suc, take-suc-set, take-set-lt, set-append-left, set-at, getD-set-same, drop-set-lt, getD-take, getD-drop, take-at, drop-at, drop-drop, length-take-le, take-all}
 use lib.Dec.{eqb, leb}
 use Rattle.memory.specs.Block.{within, block, placed, copied, moved, lowBytes, same, sameBlocks, sameBytes, repeated, filled}
 
@@ -121,6 +121,17 @@ placed-after to p l v h =
     let n : to + length (p ++ v ∷ []) ≡ suc (to + length p) = simp length-append (omega arith) in
     rw (n, drop-cons l (to + length p) 0, ← append-assoc (take to l) p (getD l (to + length p) 0 ∷ drop (suc (to + length p)) l), set-at (take to l ++ p) (getD l (to + length p) 0) (drop (suc (to + length p)) l) v (to + length p) f)
     (simp append-assoc)
+
+-- so does a piece
+pub placed-append : (to : ℕ) (p q l : List ℕ) → to + length p + length q ≤ length l → placed (to + length p) q (placed to p l) ≡ placed to (p ++ q) l
+placed-append to p q l h =
+    let f : length (take to l ++ p) ≡ to + length p = front-length to p l (omega arith) in
+    let n : to + length (p ++ q) ≡ to + length p + length q = simp length-append (omega arith) in
+    let front : take (to + length p) (placed to p l) ≡ take to l ++ p =
+    ap (take (to + length p)) (sym (append-assoc (take to l) p (drop (to + length p) l))) ∙ take-at (take to l ++ p) (drop (to + length p) l) (to + length p) f in
+    let rest : drop (to + length p + length q) (placed to p l) ≡ drop (to + length p + length q) l =
+    sym (drop-drop (length q) (to + length p) (placed to p l)) ∙ ap (drop (length q)) (drop-past-placed to p l (omega arith)) ∙ drop-drop (length q) (to + length p) l in
+    rw (front, rest, n) (append-assoc (take to l) p (q ++ drop (to + length p + length q) l) ∙ ap (λ (t : List ℕ). take to l ++ t) (sym (append-assoc p q (drop (to + length p + length q) l))))
 
 -- a store right before a placed piece makes it longer
 pub placed-before : (i : ℕ) (p l : List ℕ) (v : ℕ) → i < length l → set (placed (i + 1) p l) i v ≡ placed i (v ∷ p) l
@@ -419,3 +430,12 @@ pub filled-in : (to count x : ℕ) (l : List ℕ) → to + count ≤ length l �
 filled-in to count x l h =
     let z = length-repeated count x in
     copied-in 0 to count (repeated count x) l (omega arith) h ∙ ap (λ (p : List ℕ). placed to p l) (take-all count (repeated count x) (omega arith))
+
+-- and nothing in place of none
+pub filled-none : (to x : ℕ) (l : List ℕ) → filled to 0 x l ≡ l
+unfolding repeated
+filled-none to x l = go (leb (to + 0) (length l))
+  where
+    go : (t : Bool) → cond (leb (0 + 0) 0 && t) (placed to [] l) l ≡ l
+    go true = placed-none to l
+    go false = refl

@@ -1,0 +1,57 @@
+-- What is in range moves on by its portion and notes what it writes, and what is out of range is refused.
+use mathlib.Core.Path.{refl, sym, _∙_}
+use mathlib.Core.Bool.{true≢false}
+use borrow.Author.Needs.{needs}
+use Rattle.machine.proofs.Advancing.{in-range}
+use Rattle.machine.proofs.origins.go_on_noting.Statement.{statement}
+use Rattle.machine.proofs.origins.go_on_noting.Tie as tie
+
+is-in-range-requires : tie.Need-is-in-range-requires
+is-in-range-requires c κs = search needs
+
+portion-requires : tie.Need-portion-requires
+portion-requires c κs = search needs
+
+advance-noting-requires : tie.Need-advance-noting-requires
+advance-noting-requires c κs =
+    (in-range _ _ _ (sym (c .before .before .before .before .before .before .is-in-range .ensures) ∙ c .before .before .before .before .before .if1 .taken), c .before .before .before .before .portion .ensures .1)
+
+same-length : tie.Need-same-length
+same-length c = search needs
+
+same-length-2 : tie.Need-same-length-2
+same-length-2 c = search needs
+
+same-length-3 : tie.Need-same-length-3
+same-length-3 c = search needs
+
+same-length-4 : tie.Need-same-length-4
+same-length-4 c = search needs
+
+returns : tie.Need-returns
+returns c =
+    let yes = sym (c .before .before .before .before .before .before .before .before .before .before .before .before .before .before .before .is-in-range .ensures) ∙ c .before .before .before .before .before .before .before .before .before .before .before .before .before .before .if1 .taken in
+    let p = c .before .before .before .before .before .before .before .before .before .before .before .before .before .portion .ensures .0 in
+    let a = c .before .before .before .before .before .before .before .before .advance-noting .ensures in
+    (record { refused = λ e. absurd (true≢false (sym yes ∙ e)); advanced = λ e. rw p at (a .0) },
+    record { refused = λ e. absurd (true≢false (sym yes ∙ e)); noted = λ e. rw p at (a .1) })
+
+returns-2 : tie.Need-returns-2
+returns-2 c =
+    let no = sym (c .before .is-in-range .ensures) ∙ c .if1 .left in
+    (record { refused = λ e. (refl, refl); advanced = λ e. absurd (true≢false (sym e ∙ no)) },
+    record { refused = λ e. refl; noted = λ e. absurd (true≢false (sym e ∙ no)) })
+
+pub go-on-noting-spec : {M : Type 1} → statement M
+go-on-noting-spec =
+    tie.close
+    (tie.spec
+    is-in-range-requires
+    portion-requires
+    advance-noting-requires
+    same-length
+    same-length-2
+    same-length-3
+    same-length-4
+    returns
+    returns-2)
