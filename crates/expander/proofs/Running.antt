@@ -51,7 +51,7 @@ heldLive (suc turns) l p list = go (leb (length l) p) (eqb p list) (heldLive tur
     go false false h = omega (arith, h)
 
 -- the built-ins can always be afforded
-free : (g : Given) → g .definitions ≡ builtIns → definitionsPrice (g .definitions) ≤ length (g .lent .cells)
+pub free : (g : Given) → g .definitions ≡ builtIns → definitionsPrice (g .definitions) ≤ length (g .lent .cells)
 free g from = omega (arith, ap definitionsPrice from, builtIns-free)
 
 -- a run that shows the standing of its end has come to it
@@ -124,19 +124,26 @@ pub large : (g : Given) → tooLarge g ≡ true → returned (refusedWith Outcom
 unfolding refusedBy
 large g e = refuses g Outcomes.tooLarge (rw e refl)
 
--- what is not refused has few enough cells, and 256 signs
+-- what is not refused has few enough bytes of text, few enough cells, and 256 signs
 module _ (g : Given) (accepted : refusedBy (refusals g) ≡ none) where
   fits : (tooLarge g ≡ false) × AcceptedTable (g .table)
   fits = lent-accepted (length (g .text)) (length (g .lent .cells)) (length (g .lent .output)) (g .table) accepted
 
-  pub cellsFit : length (g .lent .cells) ≤ cellsLimit
-  cellsFit =
-      go (ltb textLimit (length (g .text))) (ltb cellsLimit (length (g .lent .cells))) (ltb outputLimit (length (g .lent .output))) refl (fits .0)
+  sizesFit : (length (g .text) ≤ textLimit) × (length (g .lent .cells) ≤ cellsLimit)
+  sizesFit =
+      go (ltb textLimit (length (g .text))) refl (ltb cellsLimit (length (g .lent .cells))) refl (ltb outputLimit (length (g .lent .output))) (fits .0)
     where
-      go : (t c o : Bool) → ltb cellsLimit (length (g .lent .cells)) ≡ c → (t || (c || o)) ≡ false → length (g .lent .cells) ≤ cellsLimit
-      go false false o e h = ltb-false cellsLimit (length (g .lent .cells)) e
-      go true c o e h = absurd (true≢false h)
-      go false true o e h = absurd (true≢false h)
+      go : (t : Bool) → ltb textLimit (length (g .text)) ≡ t → (c : Bool) → ltb cellsLimit (length (g .lent .cells)) ≡ c → (o : Bool) → (t || (c || o)) ≡ false
+          → (length (g .text) ≤ textLimit) × (length (g .lent .cells) ≤ cellsLimit)
+      go false d false e o h = (ltb-false textLimit (length (g .text)) d, ltb-false cellsLimit (length (g .lent .cells)) e)
+      go true d c e o h = absurd (true≢false h)
+      go false d true e o h = absurd (true≢false h)
+
+  pub textFits : length (g .text) ≤ textLimit
+  textFits = sizesFit .0
+
+  pub cellsFit : length (g .lent .cells) ≤ cellsLimit
+  cellsFit = sizesFit .1
 
   pub signsFit : length (g .table) ≡ 256
   signsFit = accepted-exactly (g .table) .0 (fits .1) .size

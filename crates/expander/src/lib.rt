@@ -13,6 +13,7 @@ ghost use Rattle.language.specs.Signs.{standard, cellsLimit};
 ghost use Rattle.language.specs.Refusals.{refusedBy};
 ghost use Rattle.language.specs.Expansion.{lent, given, refusals, expanded};
 ghost use Rattle.language.specs.Demand.{Expanded};
+ghost use Rattle.language.specs.Origins.{numbers, tooShort, givenWith, returnedWith, refusalsWith, expandedOrigins, ExpandedOrigins};
 ghost use Rattle.keys.specs.Scripts.{asked, Numbered};
 ghost use Rattle.expander.specs.Reports.{outcomeOf, reportOf, refusedWith, returned, Ran};
 
@@ -59,6 +60,30 @@ pub fn expand_signs(
     expand_accepted(&kinds, text, cells, output, allowance)
 }
 
+// The same, and for each byte of the output the bytes of the text read by then and the rule that wrote it.
+pub fn expand_origins(
+    signs: &[u8],
+    text: &[u8],
+    cells: &mut [u32],
+    output: &mut [u8],
+    origins: &mut [u32],
+    rules: &mut [u32],
+    allowance: u64,
+) -> Report
+    ensures { λ r. ⌜ ExpandedOrigins (givenWith (given (now (signs .entry)) (now (text .entry)) (lent (now (cells .entry)) (now (output .entry))) allowance) (numbers (now (origins .entry)) (now (rules .entry)))) (returnedWith (returned r (lent (now (cells .exit)) (now (output .exit)))) (numbers (now (origins .exit)) (now (rules .exit)))) ⌝ }
+{
+    let sizes = sizes_of(text, cells, output);
+    let verdict = Verdict::on_lent(sizes, signs);
+    if let Verdict::Refused(outcome) = verdict {
+        return Report::refused(outcome);
+    }
+    if too_short(origins, rules, output.len()) {
+        return Report::refused(outcomes::NUMBERS_TOO_SHORT);
+    }
+    let kinds = kinds_of(signs);
+    expand_accepted_origins(&kinds, text, cells, output, origins, rules, allowance)
+}
+
 // For C callers: each slice is a pointer and a length, and the report is returned by value.
 #[no_mangle]
 pub extern "C" fn gpm_expand(
@@ -83,6 +108,21 @@ pub extern "C" fn gpm_expand_signs(
     ensures { λ r. ⌜ Expanded (given (now (signs .entry)) (now (text .entry)) (lent (now (cells .entry)) (now (output .entry))) allowance) (returned r (lent (now (cells .exit)) (now (output .exit)))) ⌝ }
 {
     expand_signs(signs, text, cells, output, allowance)
+}
+
+#[no_mangle]
+pub extern "C" fn gpm_expand_origins(
+    signs: &[u8],
+    text: &[u8],
+    cells: &mut [u32],
+    output: &mut [u8],
+    origins: &mut [u32],
+    rules: &mut [u32],
+    allowance: u64,
+) -> Report
+    ensures { λ r. ⌜ ExpandedOrigins (givenWith (given (now (signs .entry)) (now (text .entry)) (lent (now (cells .entry)) (now (output .entry))) allowance) (numbers (now (origins .entry)) (now (rules .entry)))) (returnedWith (returned r (lent (now (cells .exit)) (now (output .exit)))) (numbers (now (origins .exit)) (now (rules .exit)))) ⌝ }
+{
+    expand_origins(signs, text, cells, output, origins, rules, allowance)
 }
 
 // For a recorder of keys: a script for the wanted bytes with the standard signs, and the outcome and the script's length in one
@@ -121,6 +161,44 @@ fn expand_accepted(
     let st = run_to_end(kinds, text, cells, output, allowance);
     memory::clear(cells);
     Report::of(st)
+}
+
+// The same with the origins beside it: the same scans, each noted.
+fn expand_accepted_origins(
+    kinds: &[u8; 256],
+    text: &[u8],
+    cells: &mut [u32],
+    output: &mut [u8],
+    origins: &mut [u32],
+    rules: &mut [u32],
+    allowance: u64,
+) -> Report
+    requires { ⌜ refusedBy (refusalsWith (givenWith (given (now kinds) (now text) (lent (now cells) (now output)) allowance) (numbers (now origins) (now rules)))) ≡ none ⌝ }
+    ensures { λ r. ⌜ returnedWith (returned r (lent (now (cells .exit)) (now (output .exit)))) (numbers (now (origins .exit)) (now (rules .exit))) ≡ expandedOrigins (givenWith (given (now (kinds .entry)) (now (text .entry)) (lent (now (cells .entry)) (now (output .entry))) allowance) (numbers (now (origins .entry)) (now (rules .entry)))) ⌝ }
+{
+    let run = Run::new(cells.len());
+    let st = machine::origins::go_on_noting(
+        run,
+        kinds,
+        text,
+        cells,
+        output,
+        origins,
+        rules,
+        allowance,
+    );
+    memory::clear(cells);
+    Report::of(st)
+}
+
+// Whether either run of numbers is shorter than the output.
+fn too_short(origins: &[u32], rules: &[u32], output: usize) -> bool
+    ensures { λ r. ⌜ r ≡ tooShort (numbers (now (origins .entry)) (now (rules .entry))) output ⌝ }
+{
+    if origins.len() < output {
+        return true;
+    }
+    rules.len() < output
 }
 
 // The signs as an array, in which every byte has its place.

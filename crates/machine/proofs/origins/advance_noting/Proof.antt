@@ -60,9 +60,10 @@ returns c =
     let g = l .0 in
     let some = c .before .before .before .before .before .before .before .before .before .before .if1 .taken in
     let st = c .before .before .before .before .before .step in
-    let out = not-on (st .result .answer) (c .match .keys2) in
-    (ends _ _ _ _ g some _ (st .ensures) (omega (arith, c .before .before .before .before .cells .given, g .cells)) (omega (arith, c .before .before .output .given, g .output)) _ _ refl out refl refl .0,
-    noted-ended _ _ _ _ _ _ (l .1) some _ (st .ensures) out)
+    let out = not-on (st .result .answer) (c .match .keys2) in (
+      ends _ _ _ _ g some _ (st .ensures) (omega (arith, c .before .before .before .before .cells .given, g .cells)) (omega (arith, c .before .before .output .given, g .output)) _ _ refl out refl refl .0,
+      noted-ended _ _ _ _ _ _ (l .1) some _ (st .ensures) out,
+    )
 
 note-requires : tie.Need-note-requires Inv-loop μ-loop
 note-requires c κs = search needs
@@ -81,11 +82,12 @@ loop-again c =
     let some = c .before .before .before .before .before .before .before .before .before .before .before .before .before .before .before .before .before .before .before .if1 .taken in
     let st = c .before .before .before .before .before .before .before .before .before .before .before .before .before .before .step in
     let on = c .before .before .before .before .before .before .before .before .enum-told .given .1 in
-    let once = onceMore _ _ _ _ g some _ (st .ensures) (omega (arith, c .before .before .before .before .before .before .before .before .before .before .before .before .before .cells .given, g .cells)) (omega (arith, c .before .before .before .before .before .before .before .before .before .before .before .output .given, g .output)) on in
-    (again _ _ _ _ g some _ (st .ensures) (omega (arith, c .before .before .before .before .before .before .before .before .before .before .before .before .before .cells .given, g .cells)) (omega (arith, c .before .before .before .before .before .before .before .before .before .before .before .output .given, g .output)) (λ i. c .before .before .before .before .before .before .before .before .before .before .before .before .slice-known5 .given i .fits) on,
-    noted-again _ _ _ _ _ _ (l .1) some _ (st .ensures) on once (c .before .before .before .before .before .before .before .before .before .before .before .before .before .before .before .before .before .rule .ensures) (c .before .before .before .before .before .note .ensures),
-    omega (arith, c .before .before .before .before .origins .given, l .2),
-    omega (arith, c .before .before .rules .given, l .3))
+    let once = onceMore _ _ _ _ g some _ (st .ensures) (omega (arith, c .before .before .before .before .before .before .before .before .before .before .before .before .before .cells .given, g .cells)) (omega (arith, c .before .before .before .before .before .before .before .before .before .before .before .output .given, g .output)) on in (
+      again _ _ _ _ g some _ (st .ensures) (omega (arith, c .before .before .before .before .before .before .before .before .before .before .before .before .before .cells .given, g .cells)) (omega (arith, c .before .before .before .before .before .before .before .before .before .before .before .output .given, g .output)) (λ i. c .before .before .before .before .before .before .before .before .before .before .before .before .slice-known5 .given i .fits) on,
+      noted-again _ _ _ _ _ _ (l .1) some _ (st .ensures) on once (c .before .before .before .before .before .before .before .before .before .before .before .before .before .before .before .before .before .rule .ensures) (c .before .before .before .before .before .note .ensures),
+      omega (arith, c .before .before .before .before .origins .given, l .2),
+      omega (arith, c .before .before .rules .given, l .3),
+    )
 
 goes-on-requires : tie.Need-goes-on-requires Inv-loop μ-loop
 goes-on-requires c κs = search needs

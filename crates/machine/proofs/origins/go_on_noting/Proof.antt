@@ -32,15 +32,17 @@ returns : tie.Need-returns
 returns c =
     let yes = sym (c .before .before .before .before .before .before .before .before .before .before .before .before .before .before .before .is-in-range .ensures) ∙ c .before .before .before .before .before .before .before .before .before .before .before .before .before .before .if1 .taken in
     let p = c .before .before .before .before .before .before .before .before .before .before .before .before .before .portion .ensures .0 in
-    let a = c .before .before .before .before .before .before .before .before .advance-noting .ensures in
-    (record { refused = λ e. absurd (true≢false (sym yes ∙ e)); advanced = λ e. rw p at (a .0) },
-    record { refused = λ e. absurd (true≢false (sym yes ∙ e)); noted = λ e. rw p at (a .1) })
+    let a = c .before .before .before .before .before .before .before .before .advance-noting .ensures in (
+      record { refused = λ e. absurd (true≢false (sym yes ∙ e)); advanced = λ e. rw p at (a .0) },
+      record { refused = λ e. absurd (true≢false (sym yes ∙ e)); noted = λ e. rw p at (a .1) },
+    )
 
 returns-2 : tie.Need-returns-2
 returns-2 c =
-    let no = sym (c .before .is-in-range .ensures) ∙ c .if1 .left in
-    (record { refused = λ e. (refl, refl); advanced = λ e. absurd (true≢false (sym e ∙ no)) },
-    record { refused = λ e. refl; noted = λ e. absurd (true≢false (sym e ∙ no)) })
+    let no = sym (c .before .is-in-range .ensures) ∙ c .if1 .left in (
+      record { refused = λ e. (refl, refl); advanced = λ e. absurd (true≢false (sym e ∙ no)) },
+      record { refused = λ e. refl; noted = λ e. absurd (true≢false (sym e ∙ no)) },
+    )
 
 pub go-on-noting-spec : {M : Type 1} → statement M
 go-on-noting-spec =
