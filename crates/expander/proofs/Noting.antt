@@ -2,8 +2,8 @@
 use Prim.Native.Nat.{ℕ, _+_, _-_, _≤_, min}
 use native.Mathlib.Omega.{arith}
 use native.Mathlib.Nat.{zero-add}
-use mathlib.Core.Path.{_≡_, refl, sym, ap, subst, _∙_}
-use mathlib.Core.Bool.{Bool, true, false, cond, true≢false}
+use mathlib.Core.Path.{_≡_, refl, sym, ap, _∙_}
+use mathlib.Core.Bool.{Bool, true, false, cond}
 use mathlib.Core.List.{List, [], _∷_, _++_}
 use mathlib.Core.Option.{Option, none, some}
 use lib.ListN.{length, drop}
@@ -14,14 +14,13 @@ use Rattle.language.specs.Refusals.{Refusal, refusedBy}
 use Rattle.language.specs.Octets.{Octets}
 use Rattle.language.specs.BuiltIns.{builtIns}
 use Rattle.language.specs.Scanning as S
-use Rattle.language.specs.Expansion.{Lent, lent, Given, given, Returned, refusals, overwritten, expanded}
-use Rattle.language.specs.Origins.{Origin, origins, readsOf, rulesOf, Numbers, numbers, tooShort, GivenNumbers, givenWith, ReturnedNumbers, returnedWith, shortNumbers, refusalsWith, noted, answeredWith, expandedOrigins, ExpandedOrigins}
-use Rattle.language.proofs.Accepted.{behind-none, behind-some, both-none}
-use Rattle.language.proofs.Origins.{ordinary, origins-expanded}
+use Rattle.language.specs.Expansion.{Lent, lent, given, Returned, refusals, overwritten}
+use Rattle.language.specs.Origins.{origins, readsOf, rulesOf, Numbers, numbers, tooShort, GivenNumbers, givenWith, ReturnedNumbers, returnedWith, shortNumbers, refusalsWith, noted, answeredWith, expandedOrigins, ExpandedOrigins}
+use Rattle.language.proofs.Origins.{accepted-as, ordinary, origins-expanded}
 use Rattle.machine.specs.declared.run.Stepped.{Stepped}
 use Rattle.machine.specs.Machine.{fresh, lastScan}
 use Rattle.machine.specs.Moving.{Moves}
-use Rattle.machine.specs.Origins.{notedFrom, Notes}
+use Rattle.machine.specs.Origins.{Notes}
 use Rattle.machine.proofs.Fresh.{freshHolds}
 use Rattle.machine.proofs.Advancing.{range-in}
 use Rattle.expander.specs.Reports.{returned, refusedWith, reportOf}
@@ -44,48 +43,6 @@ noted-all T text allowance m ns ns′ h small short oct fits long =
     ∙ ap (λ (y : List ℕ). numbers y (placed 0 (rulesOf os) (ns .rules))) (fromFirst (readsOf os) (ns .origins))
     ∙ ap (numbers (overwritten (readsOf os) (ns .origins))) (fromFirst (rulesOf os) (ns .rules))
 
-module _ (g : GivenNumbers) where
-  -- the check behind the ordinary ones
-  last : List Refusal
-  last = record { outcome = Outcomes.numbersTooShort; holds = shortNumbers g } ∷ []
-
-  -- what passes it has long enough runs of numbers
-  longEnough : refusedBy last ≡ none → shortNumbers g ≡ false
-  unfolding refusedBy last
-  longEnough e = go (shortNumbers g) e
-    where
-      go : (t : Bool) → cond t (some Outcomes.numbersTooShort) none ≡ none → t ≡ false
-      go true p = let z : _≡_ {A = ℕ} 0 1 = cc in absurd (omega arith)
-      go false p = refl
-
-  -- where the ordinary call is refused, with nothing touched
-  pub refuses-as : (outcome : ℕ) → refusedBy (refusals (g .given)) ≡ some outcome
-      → returnedWith (returned (refusedWith outcome) (g .given .lent)) (g .numbers) ≡ expandedOrigins g
-  unfolding expandedOrigins last
-  refuses-as outcome e = rw (behind-some (refusals (g .given)) last outcome e) refl
-
-  -- and where it is not, but a run of numbers is too short
-  pub refuses-short : refusedBy (refusals (g .given)) ≡ none → shortNumbers g ≡ true
-      → returnedWith (returned (refusedWith Outcomes.numbersTooShort) (g .given .lent)) (g .numbers) ≡ expandedOrigins g
-  unfolding expandedOrigins last refusedBy
-  refuses-short e short = rw (behind-none (refusals (g .given)) last e, short) refl
-
-  pub accepts : refusedBy (refusals (g .given)) ≡ none → shortNumbers g ≡ false → refusedBy (refusalsWith g) ≡ none
-  unfolding last refusedBy
-  accepts e short = behind-none (refusals (g .given)) last e ∙ rw short refl
-
-  module _ (accepted : refusedBy (refusalsWith g) ≡ none) where
-    ordinary-accepted : refusedBy (refusals (g .given)) ≡ none
-    unfolding last
-    ordinary-accepted = both-none (refusals (g .given)) last accepted .0
-
-    long : shortNumbers g ≡ false
-    unfolding last
-    long = longEnough (both-none (refusals (g .given)) last accepted .1)
-
-    pub cellsFitWith : length (g .given .lent .cells) ≤ cellsLimit
-    cellsFitWith = cellsFit (g .given) ordinary-accepted
-
 -- what ends so is reported so
 pub reports-origins : (T : Table) (text : Bytes) (allowance : ℕ) (m : Lent) (ns : Numbers) {st : Stepped} {m′ : Lent} {ns′ : Numbers}
     → Moves T text allowance (fresh (length (m .cells))) m st m′ × Notes T text allowance (fresh (length (m .cells))) m ns ns′
@@ -95,10 +52,10 @@ pub reports-origins : (T : Table) (text : Bytes) (allowance : ℕ) (m : Lent) (n
 unfolding expandedOrigins
 reports-origins T text allowance m ns {st} {m′} {ns′} (h, k) oct fits size accepted =
     let g = givenWith (given T text m allowance) ns in
-    let pass = ordinary-accepted g accepted in
+    let (pass, long) = accepted-as g .0 accepted in
     let plain = reports (g .given) (ran T text allowance m st m′ h (cellsFit (g .given) pass) oct fits) size pass in
-    let is = noted-all T text allowance m ns ns′ k (cellsFit (g .given) pass) (textFits (g .given) pass) oct fits (long g accepted) in
-    ap (λ (x : Returned). returnedWith x ns′) (plain ∙ sym (ordinary g (long g accepted)))
+    let is = noted-all T text allowance m ns ns′ k (cellsFit (g .given) pass) (textFits (g .given) pass) oct fits long in
+    ap (λ (x : Returned). returnedWith x ns′) (plain ∙ sym (ordinary g long))
     ∙ ap (returnedWith (expandedOrigins g .returned)) (is ∙ ap (λ (r : Option ℕ). answeredWith r g .numbers) (sym accepted))
 
 -- a whole run from the built-ins, and demand 3 of it

@@ -24,7 +24,7 @@ use Rattle.language.specs.Substitution.{substituted, eval, within}
 use Rattle.language.specs.Expansion.{Given, Returned, lent, limitsOf, answered, cleared, expanded}
 
 -- the six numbers of a report in document 01's order: outcome, read, written, scans, most, live
-abbrev report : ℕ → ℕ → ℕ → ℕ → ℕ → ℕ → Reported
+abbrev pub report : ℕ → ℕ → ℕ → ℕ → ℕ → ℕ → Reported
 report o r w s m l = record { outcome = o; read = r; written = w; scans = s; most = m; live = l }
 
 -- a name, the script, its output and its report
@@ -204,13 +204,13 @@ before =
     []
 
 -- two texts are equal; not by the definitions' own test, which is tried here
-abbrev equal : Bytes → Bytes → Bool
+abbrev pub equal : Bytes → Bytes → Bool
 equal [] [] = true
 equal [] (y ∷ ys) = false
 equal (x ∷ xs) [] = false
 equal (x ∷ xs) (y ∷ ys) = eqb x y && equal xs ys
 
-abbrev sameReport : Reported → Reported → Bool
+abbrev pub sameReport : Reported → Reported → Bool
 sameReport a b =
     eqb (a .outcome) (b .outcome) && (eqb (a .read) (b .read) && (eqb (a .written) (b .written)
     && (eqb (a .scans) (b .scans) && (eqb (a .most) (b .most) && eqb (a .live) (b .live)))))

@@ -16,3 +16,4 @@ pub mod Demand
 pub mod Origins
 pub mod Table
 pub mod Cases
+pub mod Traces

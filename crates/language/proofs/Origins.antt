@@ -1,34 +1,35 @@
 -- Document 02, Eight: what a scan writes is what it adds to the output; so the origins of a run are those of its output. They never
 -- fall, and are at most the bytes read.
-use Prim.Native.Nat.{ℕ, zero, suc, _+_, _-_, _≤_, _<_, zero-le}
+use Prim.Native.Nat.{ℕ, zero, suc, _+_, _-_, _≤_, zero-le}
 use native.Mathlib.Omega.{arith}
 use native.Mathlib.Nat.{le-refl, le-trans}
 use mathlib.Core.Path.{_≡_, refl, sym, ap, subst, _∙_}
 use mathlib.Core.Bool.{Bool, true, false, cond}
 use mathlib.Core.List.{List, [], _∷_, _++_, append-nil, append-assoc, map-append}
 use mathlib.Core.Option.{Option, none, some}
-use lib.ListN.{length, take, drop, length-append, length-drop}
+use mathlib.Core.Logic.{_↔_}
+use lib.ListN.{length, take, drop, length-drop}
 use lib.Seq.{drop-drop}
 use lib.Dec.{ltb}
 use Rattle.language.specs.Signs.{Bytes, Language, Meaning, copied, leftOut, opens, separates, applies, fetches, unquotes, meaning, language}
 use Rattle.language.specs.Outcomes
-use Rattle.language.specs.Refusals.{Refusal, refusedBy}
+use Rattle.language.specs.Refusals.{refusedBy}
 use Rattle.language.specs.declared.built_ins.BuiltIn.{BuiltIn}
 use Rattle.language.specs.declared.built_ins.BuiltIn.the-variants.{Def, Val, Update, Arithmetic, Seq, Size, If}
 use Rattle.language.specs.Definitions.{Definition, macro, builtIn, Found, found, missing, newest}
-use Rattle.language.specs.BuiltIns.{Deed, reads, defines, gives, alters, faulty, needs, parameter, performed, deedOf, deed}
+use Rattle.language.specs.BuiltIns.{Deed, reads, defines, gives, alters, faulty, parameter, deedOf, deed}
 use Rattle.language.specs.Charge.{openPrice, endPrice, definitionsPrice}
 use Rattle.language.specs.Ends.{End}
 use Rattle.language.specs.Scanning.{Call, Body, State, Step, next, stop, Limits, listOf}
 use Rattle.language.specs.Scanning as S
 use Rattle.language.specs.Matched.{All, empty, with}
 use Rattle.language.specs.Origins
-use Rattle.language.specs.Expansion.{Given, limitsOf, refusals, ending, answered, expanded}
+use Rattle.language.specs.Expansion.{Given, limitsOf, refusals, untouched, ending, answered, expanded}
 use Rattle.language.specs.Demand.{Substitutes}
-use Rattle.language.specs.Origins.{Writes, Origin, puts, giving, taking, taken, bytesIn, writes, each, scanOrigins, originsFrom, origins, bytesOf, Rising, over, rises, FromText, GivenNumbers, ReturnedNumbers, shortNumbers, refusalsWith, answeredWith, expandedOrigins, ExpandedOrigins}
-use Rattle.language.proofs.Leads.{Leads, goesOn, ended, chargingLeads, writingLeads, onNext, onStop, scans-stop}
+use Rattle.language.specs.Origins.{Writes, Origin, puts, giving, taking, taken, bytesIn, writes, each, scanOrigins, originsFrom, origins, bytesOf, Rising, over, rises, FromText, GivenNumbers, ReturnedNumbers, returnedWith, shortNumbers, numbersRefusals, refusalsWith, answeredWith, expandedOrigins, ExpandedOrigins}
+use Rattle.language.proofs.Leads.{Leads, goesOn, ended, chargingLeads, writingLeads, scans-stop}
 use Rattle.language.proofs.Lists.{either, all-append}
-use Rattle.language.proofs.Accepted.{behind-none, behind-some}
+use Rattle.language.proofs.Accepted.{behind-none, behind-some, both-none}
 use Rattle.language.proofs.Demand.{substitutes}
 
 -- One scan -----------------------------------------------------------------------------------------------------------
@@ -496,17 +497,38 @@ module _ (g : Given) where
   pub origins-from-text : All (FromText (g .text)) (origins g)
   origins-from-text = from-text L (language (g .table)) (g .text) (g .allowance) first refl
 
+module _ (g : GivenNumbers) where
+  -- what is refused as the ordinary call is, is so whatever the numbers are,
+  pub refused-as : (k : ℕ) → refusedBy (refusals (g .given)) ≡ some k → expandedOrigins g ≡ returnedWith (untouched k (g .given .lent)) (g .numbers)
+  unfolding expandedOrigins
+  refused-as k e = rw (behind-some (refusals (g .given)) (numbersRefusals g) k e)
+
+  -- and 35 comes behind,
+  pub refused-short : refusedBy (refusals (g .given)) ≡ none → shortNumbers g ≡ true
+      → expandedOrigins g ≡ returnedWith (untouched Outcomes.numbersTooShort (g .given .lent)) (g .numbers)
+  unfolding expandedOrigins refusedBy
+  refused-short e short = rw (behind-none (refusals (g .given)) (numbersRefusals g) e, short)
+
+  -- and nothing else.
+  pub accepted-as : refusedBy (refusalsWith g) ≡ none ↔ ((refusedBy (refusals (g .given)) ≡ none) × (shortNumbers g ≡ false))
+  unfolding refusedBy
+  accepted-as = (
+    λ e. let r = both-none (refusals (g .given)) (numbersRefusals g) e in (r .0, long (shortNumbers g) (r .1)),
+    λ p. behind-none (refusals (g .given)) (numbersRefusals g) (p .0) ∙ rw (p .1),
+  )
+    where
+      long : (t : Bool) → cond t (some Outcomes.numbersTooShort) none ≡ none → t ≡ false
+      long true p = let z : _≡_ {A = ℕ} 0 1 = cc in absurd (omega arith)
+      long false p = refl
+
 -- "The output and report of such a run are those of the ordinary run." So is what is left in the cells,
 pub ordinary : (g : GivenNumbers) → shortNumbers g ≡ false → expandedOrigins g .returned ≡ expanded (g .given)
-unfolding expandedOrigins expanded refusedBy
+unfolding expandedOrigins expanded
 ordinary g short = go (refusedBy (refusals (g .given))) refl
   where
-    last : List Refusal
-    last = record { outcome = Outcomes.numbersTooShort; holds = shortNumbers g } ∷ []
-
     go : (r : Option ℕ) → refusedBy (refusals (g .given)) ≡ r → answeredWith (refusedBy (refusalsWith g)) g .returned ≡ answered r (g .given)
-    go (some k) e = rw (behind-some (refusals (g .given)) last k e)
-    go none e = rw (behind-none (refusals (g .given)) last e, short)
+    go (some k) e = rw (behind-some (refusals (g .given)) (numbersRefusals g) k e)
+    go none e = rw (accepted-as g .1 (e, short))
 
 -- and demand 3 holds of it.
 pub origins-expanded : (g : GivenNumbers) {x : ReturnedNumbers} → definitionsPrice (g .given .definitions) ≤ length (g .given .lent .cells)

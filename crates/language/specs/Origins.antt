@@ -194,16 +194,19 @@ pub record ReturnedNumbers : Type 0 where
 abbrev pub returnedWith : Returned → Numbers → ReturnedNumbers
 returnedWith x ns = record { returned = x; numbers = ns }
 
--- "either run of numbers is shorter than the output lent"
 abbrev pub tooShort : Numbers → ℕ → Bool
 tooShort ns output = ltb (length (ns .origins)) output || ltb (length (ns .rules)) output
 
 abbrev pub shortNumbers : GivenNumbers → Bool
 shortNumbers g = tooShort (g .numbers) (length (g .given .lent .output))
 
--- "35 .., after 2 and the sign checks"
+-- "35 where either run of numbers is shorter than the output lent"
+abbrev pub numbersRefusals : GivenNumbers → List Refusal
+numbersRefusals g = record { outcome = Outcomes.numbersTooShort; holds = shortNumbers g } ∷ []
+
+-- ".., after 2 and the sign checks"
 abbrev pub refusalsWith : GivenNumbers → List Refusal
-refusalsWith g = refusals (g .given) ++ (record { outcome = Outcomes.numbersTooShort; holds = shortNumbers g } ∷ [])
+refusalsWith g = refusals (g .given) ++ numbersRefusals g
 
 -- "Places past the written count are untouched."
 abbrev pub noted : List Origin → Numbers → Numbers

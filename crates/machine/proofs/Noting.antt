@@ -2,7 +2,7 @@
 use Prim.Native.Nat.{ℕ, suc, _+_, _-_, _≤_, _<_}
 use native.Mathlib.Omega.{arith}
 use mathlib.Core.Path.{_≡_, refl, sym, ap, subst, _∙_}
-use mathlib.Core.Bool.{Bool, true, false, cond, _||_, true≢false}
+use mathlib.Core.Bool.{Bool, true, false, _||_, true≢false}
 use mathlib.Core.List.{List, [], _∷_, _++_, append-nil, append-assoc, map, map-append}
 use mathlib.Core.Option.{Option, none, some}
 use lib.ListN.{length, length-append, length-map, length-drop}
@@ -18,7 +18,7 @@ use Rattle.language.specs.Expansion.{Lent, lent, limitsOf}
 use Rattle.language.specs.Origins.{Writes, bytesIn, writes, Origin, each, scanOrigins, originsFrom, readsOf, rulesOf, Numbers, numbers, tooShort}
 use Rattle.language.proofs.Leads.{onNext}
 use Rattle.language.proofs.Octets.{octets-kept}
-use Rattle.language.proofs.Origins.{Scanned, scan-writes, none-at-end, origins-stop}
+use Rattle.language.proofs.Origins.{scan-writes, none-at-end, origins-stop}
 use Rattle.machine.specs.declared.run.Run.{Run}
 use Rattle.machine.specs.declared.run.Answer.the-variants.{GoesOn}
 use Rattle.machine.specs.Walks.{cell}

@@ -9,7 +9,6 @@ use lib.ListN.{length, take, drop, getD, length-append, length-drop, take-append
 use lib.Seq.{drop-append-le, drop-append-add, take-at}
 use lib.Dec.{eqb, ltb}
 use borrow.Author.Tests.{eq-eqb, ne-eqb, eqb-true, le-ltb, lt-ltb, ltb-true}
-use Rattle.memory.specs.Block.{block}
 use Rattle.memory.proofs.Blocks.{sameBytes-in, same-true}
 use Rattle.language.specs.declared.built_ins.BuiltIn.{BuiltIn}
 use Rattle.language.specs.declared.built_ins.BuiltIn.the-variants.{Def, Val, Update, Arithmetic, Seq, Size, If}
@@ -17,7 +16,6 @@ use Rattle.language.specs.Signs.{Bytes, Table, ascii, Sign, plain, dollar, comm
 use Rattle.language.specs.Definitions.{Content, macro, builtIn, Definition, Found, found, missing, newest}
 use Rattle.language.specs.Definitions as D
 use Rattle.language.specs.BuiltIns.{Deed, reads, defines, gives, alters, faulty, builtIns, needs, parameter, performed, deedOf, deed}
-use Rattle.language.specs.Charge.{openPrice}
 use Rattle.language.specs.Matched.{All, empty, with}
 use Rattle.language.specs.Octets.{Octets, BodyOctets, HoldsOctets}
 use Rattle.language.specs.Scanning.{State, Call, Body}

@@ -4,8 +4,9 @@ use denote.Ref.{now}
 use Rattle.language.specs.Refusals.{refusalIn}
 use Rattle.language.specs.Expansion.{lent, given}
 use Rattle.language.specs.Origins.{numbers, givenWith}
+use Rattle.language.proofs.Origins.{refused-as, refused-short, accepted-as}
 use Rattle.expander.proofs.Running.{signsFit}
-use Rattle.expander.proofs.Noting.{refuses-as, refuses-short, accepts, delivers-origins}
+use Rattle.expander.proofs.Noting.{delivers-origins}
 use borrow.Author.Needs.{needs}
 use Rattle.expander.proofs.expand_origins.Statement.{statement}
 use Rattle.expander.proofs.expand_origins.Tie as tie
@@ -32,7 +33,7 @@ returns : tie.Need-returns
 returns c =
     let a = c .before .before .before .before .before .before .before .before .before .before .before .before .before .before .args in
     let g = givenWith (given (now (a .signs)) (now (a .text)) (lent (now (a .cells)) (now (a .output))) (a .allowance)) (numbers (now (a .origins)) (now (a .rules))) in
-    rw (c .refused .ensures) (delivers-origins g refl (refuses-as g _ (sym (rw (c .before .before .before .before .before .sizes-of .ensures) at (c .before .before .before .before .on-lent .ensures)) ∙ ap refusalIn (c .before .before .verdict .given .1))))
+    rw (c .refused .ensures) (delivers-origins g refl (sym (refused-as g _ (sym (rw (c .before .before .before .before .before .sizes-of .ensures) at (c .before .before .before .before .on-lent .ensures)) ∙ ap refusalIn (c .before .before .verdict .given .1)))))
 
 enum-told : tie.Need-enum-told
 enum-told c = search needs
@@ -59,7 +60,7 @@ returns-2 : tie.Need-returns-2
 returns-2 c =
     let a = c .before .before .before .before .before .before .before .before .before .before .before .before .before .before .before .before .before .args in
     let g = givenWith (given (now (a .signs)) (now (a .text)) (lent (now (a .cells)) (now (a .output))) (a .allowance)) (numbers (now (a .origins)) (now (a .rules))) in
-    rw (c .refused2 .ensures) (delivers-origins g refl (refuses-short g (sym (rw (c .before .before .before .before .before .before .before .before .sizes-of .ensures) at (c .before .before .before .before .before .before .before .on-lent .ensures)) ∙ ap refusalIn (c .before .before .before .before .before .enum-told .given .1)) (sym (c .before .before .too-short .ensures) ∙ c .before .if1 .taken)))
+    rw (c .refused2 .ensures) (delivers-origins g refl (sym (refused-short g (sym (rw (c .before .before .before .before .before .before .before .before .sizes-of .ensures) at (c .before .before .before .before .before .before .before .on-lent .ensures)) ∙ ap refusalIn (c .before .before .before .before .before .enum-told .given .1)) (sym (c .before .before .too-short .ensures) ∙ c .before .if1 .taken))))
 
 kinds-of-requires : tie.Need-kinds-of-requires
 kinds-of-requires c κs =
@@ -71,7 +72,7 @@ expand-accepted-origins-requires : tie.Need-expand-accepted-origins-requires
 expand-accepted-origins-requires c κs =
     let a = c .before .before .before .before .before .before .before .before .before .before .before .before .before .before .before .before .before .before .before .before .before .before .args in
     let g = givenWith (given (now (a .signs)) (now (a .text)) (lent (now (a .cells)) (now (a .output))) (a .allowance)) (numbers (now (a .origins)) (now (a .rules))) in
-    rw (c .before .before .before .before .before .kinds-of .ensures) (accepts g (sym (rw (c .before .before .before .before .before .before .before .before .before .before .before .before .before .sizes-of .ensures) at (c .before .before .before .before .before .before .before .before .before .before .before .before .on-lent .ensures)) ∙ ap refusalIn (c .before .before .before .before .before .before .before .before .before .before .enum-told .given .1)) (sym (c .before .before .before .before .before .before .before .too-short .ensures) ∙ c .before .before .before .before .before .before .if1 .left))
+    rw (c .before .before .before .before .before .kinds-of .ensures) (accepted-as g .1 (sym (rw (c .before .before .before .before .before .before .before .before .before .before .before .before .before .sizes-of .ensures) at (c .before .before .before .before .before .before .before .before .before .before .before .before .on-lent .ensures)) ∙ ap refusalIn (c .before .before .before .before .before .before .before .before .before .before .enum-told .given .1), sym (c .before .before .before .before .before .before .before .too-short .ensures) ∙ c .before .before .before .before .before .before .if1 .left))
 
 same-length-7 : tie.Need-same-length-7
 same-length-7 c = search needs

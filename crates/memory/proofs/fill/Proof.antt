@@ -5,7 +5,6 @@ use native.Mathlib.Omega.{arith}
 use native.Mathlib.Nat.{zero-add}
 use borrow.Author.Needs.{needs}
 use borrow.Author.Tests.{leb-true, leb-false}
-use lib.ListN.{length}
 use Rattle.memory.specs.Block.{repeated}
 use Rattle.memory.proofs.Blocks.{refused, granted, Copying, copying-start, copying-step, copying-end, copied-past-target, length-repeated, getD-repeated}
 use Rattle.memory.proofs.fill.Statement.{statement}
