@@ -53,7 +53,7 @@ pub(crate) fn number(row: &[u8], number: usize) -> u32 {
 }
 
 // The value of decimal digits, of which there are few enough.
-fn value(digits: &[u8]) -> u32 {
+pub(crate) fn value(digits: &[u8]) -> u32 {
     if digits.len() == 0 {
         return NONE;
     }

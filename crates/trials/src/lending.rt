@@ -17,7 +17,7 @@ pub(crate) const MOST_OUTPUT: usize = Sizes::OUTPUT_LIMIT + 1;
 // Far more than the 256 that it takes.
 pub(crate) const MOST_SIGNS: usize = 65536;
 
-const CELLS_ROOM: usize = MOST_CELLS + 2 * MARGIN;
+pub(crate) const CELLS_ROOM: usize = MOST_CELLS + 2 * MARGIN;
 
 pub(crate) const OUTPUT_ROOM: usize = MOST_OUTPUT + 2 * MARGIN;
 
@@ -27,6 +27,7 @@ const SIGNS_ROOM: usize = MOST_SIGNS + 2 * MARGIN;
 pub(crate) enum Call {
     Expand,
     ExpandSigns,
+    ExpandOrigins,
 }
 
 // What a trial lends beside the signs and the text.
@@ -36,8 +37,8 @@ pub(crate) struct Lent {
     pub(crate) allowance: u64,
 }
 
-// Whether a call gives this report and this output, and leaves all lent memory and what lies around it as it should. The
-// signs are for `ExpandSigns` alone.
+// Whether a call gives this report and this output, and leaves all lent memory and what lies around it as it should. `Expand`
+// has no use for the signs, and no number is lent.
 pub(crate) fn is_right(
     call: Call,
     signs: &[u8],
@@ -48,7 +49,30 @@ pub(crate) fn is_right(
 ) -> bool {
     let mut cells = [0u32; CELLS_ROOM];
     let mut bytes = [0u8; OUTPUT_ROOM];
-    let got = run(call, signs, text, lent, &mut cells, &mut bytes);
+    let mut none = [0u32; 0];
+    let mut none_either = [0u32; 0];
+    let got = run(
+        call,
+        signs,
+        text,
+        lent,
+        &mut cells,
+        &mut bytes,
+        &mut none,
+        &mut none_either,
+    );
+    is_left(got, &cells, &bytes, lent, report, output)
+}
+
+// Whether this report, and this output in the array around it and these cells, are what a run should leave.
+pub(crate) fn is_left(
+    got: Report,
+    cells: &[u32],
+    bytes: &[u8],
+    lent: Lent,
+    report: Report,
+    output: &[u8],
+) -> bool {
     if !is_same(got, report) {
         return false;
     }
@@ -57,20 +81,22 @@ pub(crate) fn is_right(
     }
     let mut before = [0u8; OUTPUT_ROOM];
     pattern::fill_bytes(&mut before);
-    if !output_is_right(&bytes, output, &before) {
+    if !output_is_right(bytes, output, &before) {
         return false;
     }
-    cells_are_right(&cells, lent.cells, report.outcome)
+    cells_are_right(cells, lent.cells, report.outcome)
 }
 
-// Fills the arrays with the pattern and runs the text on parts of them.
-fn run(
+// Fills the cells and the bytes with the pattern and runs the text on parts of them. The runs of numbers are lent as they are.
+pub(crate) fn run(
     call: Call,
     signs: &[u8],
     text: &[u8],
     lent: Lent,
     cells: &mut [u32],
     bytes: &mut [u8],
+    origins: &mut [u32],
+    rules: &mut [u32],
 ) -> Report {
     pattern::fill_cells(cells);
     pattern::fill_bytes(bytes);
@@ -87,9 +113,34 @@ fn run(
     }
     let cells = &mut cells[MARGIN..cells_end];
     let output = &mut bytes[MARGIN..bytes_end];
+    make(
+        call,
+        signs,
+        text,
+        cells,
+        output,
+        origins,
+        rules,
+        lent.allowance,
+    )
+}
+
+fn make(
+    call: Call,
+    signs: &[u8],
+    text: &[u8],
+    cells: &mut [u32],
+    output: &mut [u8],
+    origins: &mut [u32],
+    rules: &mut [u32],
+    allowance: u64,
+) -> Report {
     match call {
-        Call::Expand => expander::expand(text, cells, output, lent.allowance),
-        Call::ExpandSigns => expand_signs(signs, text, cells, output, lent.allowance),
+        Call::Expand => expander::expand(text, cells, output, allowance),
+        Call::ExpandSigns => expand_signs(signs, text, cells, output, allowance),
+        Call::ExpandOrigins => {
+            expand_origins(signs, text, cells, output, origins, rules, allowance)
+        }
     }
 }
 
@@ -110,6 +161,32 @@ fn expand_signs(
     expander::expand_signs(&room[MARGIN..end], text, cells, output, allowance)
 }
 
+fn expand_origins(
+    signs: &[u8],
+    text: &[u8],
+    cells: &mut [u32],
+    output: &mut [u8],
+    origins: &mut [u32],
+    rules: &mut [u32],
+    allowance: u64,
+) -> Report {
+    if signs.len() > MOST_SIGNS {
+        return nothing();
+    }
+    let mut room = [0u8; SIGNS_ROOM];
+    lay(signs, &mut room);
+    let end = MARGIN + signs.len();
+    expander::expand_origins(
+        &room[MARGIN..end],
+        text,
+        cells,
+        output,
+        origins,
+        rules,
+        allowance,
+    )
+}
+
 // The signs behind a margin, and the pattern around them.
 fn lay(signs: &[u8], room: &mut [u8])
     requires { ⌜ 32 + length (now signs) ≤ length (now room) ⌝ }
@@ -120,7 +197,7 @@ fn lay(signs: &[u8], room: &mut [u8])
 }
 
 // A report that no run gives, for what cannot be lent.
-fn nothing() -> Report {
+pub(crate) fn nothing() -> Report {
     Report {
         outcome: u64::MAX,
         read: 0,
@@ -180,10 +257,10 @@ fn cells_are_right(cells: &[u32], lent: usize, outcome: u64) -> bool {
     pattern::has_cells(cells, end, cells.len())
 }
 
-// Whether this is the outcome of a call that touches nothing: sizes or signs that are not taken.
+// Whether this is the outcome of a call that touches nothing: sizes, signs or runs of numbers that are not taken.
 fn is_refused(outcome: u64) -> bool {
     match outcome {
-        2 | 30..=32 => true,
+        2 | 30..=32 | 35 => true,
         _ => false,
     }
 }

@@ -1,4 +1,4 @@
-// Runs the expander on every row of scripts.tsv and of signs.tsv, and on texts, cells and output of every size about the
+// Runs the expander on every row of scripts.tsv, signs.tsv and origins.tsv, and on texts, cells and output of every size about the
 // limits; asks for a script for every row of keys.tsv, and for keys and output of every size about theirs. Writes a line for
 // each trial that is wrong and, at the end of each part, how many there were.
 mod fields;
@@ -8,6 +8,7 @@ mod recording;
 mod rows;
 mod signs;
 mod sizes;
+mod tracing;
 mod wanted;
 
 use crate::rows::File;
@@ -16,6 +17,7 @@ use libc::STDOUT_FILENO;
 fn main() {
     try_file(b"scripts.tsv", File::Scripts, b" rows, ");
     try_file(b"signs.tsv", File::Signs, b" signs, ");
+    try_file(b"origins.tsv", File::Origins, b" origins, ");
     try_file(b"keys.tsv", File::Keys, b" keys, ");
     let text = [b'x'; sizes::LONGEST];
     let wrong = sizes::try_all(&text);

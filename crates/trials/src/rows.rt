@@ -1,20 +1,24 @@
-// Tries each row of scripts.tsv, signs.tsv or keys.tsv, and writes a line for each that is wrong.
+// Tries each row of scripts.tsv, signs.tsv, origins.tsv or keys.tsv, and writes a line for each that is wrong.
 //
-// The first line of a file names its columns: what a row is about, in signs.tsv and keys.tsv the signs and how many bytes of
-// their table are lent, and then the columns of a run: the cells, the output and the allowance lent, the script, the six
-// numbers of the report, and the output; in keys.tsv the wanted bytes, the output lent, the outcome and the script.
+// The first line of a file names its columns: what a row is about, in all but scripts.tsv the signs and how many bytes of their
+// table are lent, in origins.tsv how many origins and rules are lent, and then the columns of a run: the cells, the output and the
+// allowance lent, the script, the six numbers of the report, and the output; in origins.tsv the origins and the rules behind that;
+// in keys.tsv the wanted bytes, the output lent, the outcome and the script.
 use crate::fields;
 use crate::lending;
 use crate::lending::Call;
 use crate::lending::Lent;
 use crate::recording;
 use crate::signs;
+use crate::tracing;
+use crate::tracing::Numbers;
 use expander::Report;
 use libc::STDOUT_FILENO;
 
 pub(crate) enum File {
     Scripts,
     Signs,
+    Origins,
     Keys,
 }
 
@@ -43,6 +47,7 @@ fn is_right(row: &[u8], file: File) -> bool {
     let right = match file {
         File::Scripts => script_is_right(row),
         File::Signs => signs_are_right(row),
+        File::Origins => origins_are_right(row),
         File::Keys => keys_are_right(row),
     };
     if right {
@@ -54,11 +59,11 @@ fn is_right(row: &[u8], file: File) -> bool {
     false
 }
 
-// By both calls: `expand` is `expand_signs` with the standard signs.
+// By every call: `expand` is `expand_signs` with the standard signs, and that is `expand_origins` without the origins.
 fn script_is_right(row: &[u8]) -> bool {
     let run = fields::from(row, 1);
     let kinds = language::standard_kinds();
-    run_is_right(Call::Expand, &kinds, run) && run_is_right(Call::ExpandSigns, &kinds, run)
+    run_is_right(Call::Expand, &kinds, run) && signed_run_is_right(&kinds, run)
 }
 
 fn signs_are_right(row: &[u8]) -> bool {
@@ -67,27 +72,66 @@ fn signs_are_right(row: &[u8]) -> bool {
     if len > table.len() {
         return false;
     }
-    run_is_right(Call::ExpandSigns, &table[0..len], fields::from(row, 3))
+    signed_run_is_right(&table[0..len], fields::from(row, 3))
 }
 
-// Whether the columns of a run are right by a call.
+// Whether the columns of a run are right by both calls that take signs.
+fn signed_run_is_right(signs: &[u8], run: &[u8]) -> bool {
+    if !run_is_right(Call::ExpandSigns, signs, run) {
+        return false;
+    }
+    let script = fields::field(run, 3);
+    let output = fields::field(run, 10);
+    tracing::is_as_ordinary(signs, script, lent_in(run), report_in(run), output)
+}
+
+// Whether they are right by a call.
 fn run_is_right(call: Call, signs: &[u8], run: &[u8]) -> bool {
-    let lent = Lent {
+    let script = fields::field(run, 3);
+    let output = fields::field(run, 10);
+    lending::is_right(call, signs, script, lent_in(run), report_in(run), output)
+}
+
+fn lent_in(run: &[u8]) -> Lent {
+    Lent {
         cells: fields::number(run, 0) as usize,
         output: fields::number(run, 1) as usize,
         allowance: fields::number(run, 2) as u64,
-    };
-    let report = Report {
+    }
+}
+
+fn report_in(run: &[u8]) -> Report {
+    Report {
         outcome: fields::number(run, 4) as u64,
         read: fields::number(run, 5) as u64,
         written: fields::number(run, 6) as u64,
         scans: fields::number(run, 7) as u64,
         most: fields::number(run, 8) as u64,
         live: fields::number(run, 9) as u64,
+    }
+}
+
+fn origins_are_right(row: &[u8]) -> bool {
+    let table = signs::table(fields::field(row, 1));
+    let len = fields::number(row, 2) as usize;
+    if len > table.len() {
+        return false;
+    }
+    let numbers = Numbers {
+        origins: fields::number(row, 3) as usize,
+        rules: fields::number(row, 4) as usize,
     };
-    let script = fields::field(run, 3);
-    let output = fields::field(run, 10);
-    lending::is_right(call, signs, script, lent, report, output)
+    let run = fields::from(row, 5);
+    tracing::is_right(
+        &table[0..len],
+        fields::field(run, 3),
+        lent_in(run),
+        numbers,
+        report_in(run),
+        fields::field(run, 10),
+        fields::field(run, 11),
+        fields::field(run, 12),
+    )
 }
 
 // By `script_for`, and with the standard signs by the C form too.

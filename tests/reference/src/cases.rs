@@ -1,10 +1,11 @@
-//! Scripts with known ends, worked out by hand from document 01 and document 02's requests One to Seven, against
+//! Scripts with known ends, worked out by hand from document 01 and document 02's requests One to Eight, against
 //! both halves.
 mod charge_carried;
 mod keys;
 mod m6_words;
 mod menu_wheels;
 mod nameless;
+mod origins;
 mod own_signs;
 
 use crate::arithmetic::{reckon, Operation};
@@ -375,6 +376,7 @@ const LITTLE: Lent = Lent {
     cells: 300,
     output: 300,
     allowance: 500,
+    numbers: None,
 };
 
 /// Every way to put four of these pieces together.

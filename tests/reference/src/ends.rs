@@ -6,7 +6,8 @@ use std::fmt;
 pub enum Sort {
     /// "A run finishes with 0 or 1".
     Finish,
-    /// What is lent is refused before the first scan: its sizes, or its signs by request Two.
+    /// What is lent is refused before the first scan: its sizes, its signs by request Two, or its runs of numbers by
+    /// request Eight.
     Refusal,
     /// What is lent does not suffice. "Outcomes 3, 4 and 5" substitution "does not have".
     Want,
@@ -18,7 +19,7 @@ pub enum Sort {
 pub fn sort(outcome: u64) -> Option<Sort> {
     match outcome {
         0..=1 => Some(Sort::Finish),
-        2 | 30..=32 => Some(Sort::Refusal),
+        2 | 30..=32 | 35 => Some(Sort::Refusal),
         3..=5 => Some(Sort::Want),
         10..=24 | 33 => Some(Sort::Fault),
         _ => None,
@@ -66,11 +67,14 @@ pub struct Standing {
     pub defined: usize,
 }
 
-/// The report, the bytes written, and the definitions standing, newest first, built-ins aside.
+/// The report, the bytes written with an origin and a rule for each, and the definitions standing, newest first,
+/// built-ins aside.
 #[derive(Clone, Debug, PartialEq, Eq)]
 pub struct End {
     pub report: Report,
     pub output: Vec<u8>,
+    pub origins: Vec<u32>,
+    pub rules: Vec<u32>,
     pub standing: Vec<Standing>,
 }
 
@@ -87,6 +91,8 @@ impl End {
                 live: 0,
             },
             output: Vec::new(),
+            origins: Vec::new(),
+            rules: Vec::new(),
             standing: Vec::new(),
         }
     }

@@ -5,6 +5,7 @@ pub mod arithmetic;
 mod cases;
 pub mod ends;
 pub mod keys;
+pub mod origins;
 pub mod scanning;
 pub mod signs;
 pub mod substitution;

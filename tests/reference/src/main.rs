@@ -1,5 +1,5 @@
-//! The program `reference`: runs the script on standard input by scanning or by substitution, shows each scan, or makes
-//! the script for the keys on standard input.
+//! The program `reference`: runs the script on standard input by scanning or by substitution, shows each scan or where
+//! each byte came from, or makes the script for the keys on standard input.
 use reference::ends::{End, Sort};
 use reference::keys;
 use reference::scanning::{self, Handled, Lent, Row};
@@ -8,7 +8,8 @@ use reference::substitution::{self, Bounds};
 use std::io::{self, Read, Write};
 use std::process::ExitCode;
 
-const USAGE: &str = "usage: reference scan [CELLS OUTPUT ALLOWANCE] | substitute | trace   (script on standard input)
+const USAGE: &str =
+    "usage: reference scan [CELLS OUTPUT ALLOWANCE] | substitute | trace | origins   (script on standard input)
        reference script [OUTPUT]   (wanted bytes on standard input)";
 
 /// Far beyond what a run is lent, so that what is given up has no end that a run could come to.
@@ -33,6 +34,7 @@ fn main() -> ExitCode {
         },
         ["substitute"] => substitute(),
         ["trace"] => trace(),
+        ["origins"] => origins(),
         ["script"] => script_for(LIMIT),
         ["script", output] => match output.parse() {
             Ok(output) => script_for(output),
@@ -59,6 +61,7 @@ fn lent(cells: &str, output: &str, allowance: &str) -> Option<Lent> {
         cells: cells.parse().ok()?,
         output: output.parse().ok()?,
         allowance: allowance.parse().ok()?,
+        numbers: None,
     })
 }
 
@@ -126,6 +129,20 @@ fn trace() -> io::Result<()> {
         }
     });
     written?;
+    to.flush()?;
+    eprintln!("{}", end.report);
+    Ok(())
+}
+
+/// For each byte written its origin and its rule, as a table on standard output; the report goes to standard error.
+fn origins() -> io::Result<()> {
+    let end = scanning::run(&input()?, &Lent::PROGRAM);
+    let mut to = io::BufWriter::new(io::stdout().lock());
+    writeln!(to, "| byte | origin | rule |")?;
+    writeln!(to, "|---|---:|---:|")?;
+    for (byte, (origin, rule)) in end.output.iter().zip(end.origins.iter().zip(&end.rules)) {
+        writeln!(to, "| {} | {origin} | {rule} |", span(&[*byte]))?;
+    }
     to.flush()?;
     eprintln!("{}", end.report);
     Ok(())

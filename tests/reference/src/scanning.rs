@@ -2,6 +2,7 @@
 //! Its lists grow as they please; the charge is summed anew from them whenever it is needed.
 use crate::arithmetic::{self, Operation};
 use crate::ends::{End, Report, Standing};
+use crate::origins::{Numbers, Rule};
 use crate::signs::{self, BuiltIn, Checked, Reading, Table};
 use std::fmt;
 use std::rc::Rc;
@@ -12,6 +13,8 @@ pub struct Lent {
     pub cells: usize,
     pub output: usize,
     pub allowance: u64,
+    /// By request Eight, where it is asked where each byte came from.
+    pub numbers: Option<Numbers>,
 }
 
 impl Lent {
@@ -20,6 +23,7 @@ impl Lent {
         cells: 16_384,
         output: 65_536,
         allowance: 10_000_000,
+        numbers: None,
     };
 }
 
@@ -80,7 +84,8 @@ impl fmt::Display for Handled {
 /// A scan gives the next standing, or the outcome that ends the run.
 type Scanned = Result<(), u64>;
 
-/// The run, unless what is lent is refused: by 2, "text, cells or output lent over 65,536 long", then by the signs.
+/// The run, unless what is lent is refused: by 2, "text, cells or output lent over 65,536 long", then by the signs,
+/// then by 35, "after 2 and the sign checks".
 fn checked(
     signs: &Checked,
     text: &[u8],
@@ -93,8 +98,9 @@ fn checked(
         return End::refused(2);
     }
     match signs {
-        Ok(table) => to_the_end(Machine::fresh(table, text, lent, reading), one_scan),
         Err(outcome) => End::refused(*outcome),
+        Ok(_) if lent.numbers.is_some_and(|numbers| numbers.too_short(lent.output)) => End::refused(35),
+        Ok(table) => to_the_end(Machine::fresh(table, text, lent, reading), one_scan),
     }
 }
 
@@ -164,6 +170,9 @@ struct Machine<'a> {
     /// The live definitions, newest last.
     definitions: Vec<Definition>,
     output: Vec<u8>,
+    /// For each byte of the output, what was read of the text by the end of its scan, and the rule that wrote it.
+    origins: Vec<u32>,
+    rules: Vec<u32>,
     scans: u64,
     most: usize,
     gone: Gone,
@@ -212,6 +221,8 @@ impl<'a> Machine<'a> {
             bodies: Vec::new(),
             definitions: Vec::new(),
             output: Vec::new(),
+            origins: Vec::new(),
+            rules: Vec::new(),
             scans: 0,
             most: 0,
             gone: Gone::default(),
@@ -244,7 +255,7 @@ impl<'a> Machine<'a> {
                 Ok(())
             }
             signs::UNQUOTE => self.bare_unquote(),
-            _ => self.copy(&[byte]),
+            _ => self.copy_byte(byte),
         }
     }
 
@@ -269,7 +280,7 @@ impl<'a> Machine<'a> {
         if self.quotes == 0 {
             return Ok(());
         }
-        self.copy(&[byte])
+        self.copy_byte(byte)
     }
 
     /// "`$` opens a call with an empty name."
@@ -287,7 +298,7 @@ impl<'a> Machine<'a> {
     /// behalf of that argument. With no open call it is copied."
     fn comma(&mut self, byte: u8) -> Scanned {
         if self.calls.is_empty() {
-            return self.copy(&[byte]);
+            return self.copy_byte(byte);
         }
         self.allow(1)?;
         let innermost = self.calls.last_mut().expect("an open call");
@@ -301,7 +312,7 @@ impl<'a> Machine<'a> {
             return Err(10);
         }
         if self.calls.is_empty() {
-            return self.copy(&[byte]);
+            return self.copy_byte(byte);
         }
         // Charged "1 before the name is looked up", so that "most" has it though the name be unknown.
         self.allow(1)?;
@@ -316,7 +327,7 @@ impl<'a> Machine<'a> {
         let Some(body) = self.bodies.last_mut() else {
             // "In the text, with no open call, `~` is copied as a plain byte."
             return if self.calls.is_empty() {
-                self.copy(&[byte])
+                self.copy_byte(byte)
             } else {
                 Err(11)
             };
@@ -325,7 +336,7 @@ impl<'a> Machine<'a> {
         let number = next.and_then(self.reading).ok_or(12u64)?;
         body.at += 1;
         let parameter = body.call.item(number).ok_or(13u64)?.to_vec();
-        self.copy(&parameter)
+        self.copy(&parameter, Rule::Fetched)
     }
 
     /// An unquoted `>`, which only the text can show.
@@ -362,23 +373,36 @@ impl<'a> Machine<'a> {
         }
     }
 
+    /// A byte that stands for itself, "copied from the text" or "copied from a body".
+    fn copy_byte(&mut self, byte: u8) -> Scanned {
+        let rule = if self.bodies.is_empty() {
+            Rule::FromText
+        } else {
+            Rule::FromBody
+        };
+        self.copy(&[byte], rule)
+    }
+
     /// Bytes "go to the argument being collected by the innermost open call, else to the output", whole or not.
-    fn copy(&mut self, bytes: &[u8]) -> Scanned {
+    fn copy(&mut self, bytes: &[u8], rule: Rule) -> Scanned {
         if self.calls.is_empty() {
             self.room(bytes.len())?;
         } else {
             self.allow(bytes.len())?;
         }
-        self.put(bytes);
+        self.put(bytes, rule);
         Ok(())
     }
 
-    fn put(&mut self, bytes: &[u8]) {
-        let to = match self.calls.last_mut() {
-            Some(call) => &mut call.bytes,
-            None => &mut self.output,
-        };
-        to.extend_from_slice(bytes);
+    /// What is collected keeps no origin: the scan that writes it later has its own. Nothing of the text is read in a
+    /// scan after this.
+    fn put(&mut self, bytes: &[u8], rule: Rule) {
+        if let Some(call) = self.calls.last_mut() {
+            return call.bytes.extend_from_slice(bytes);
+        }
+        self.output.extend_from_slice(bytes);
+        self.origins.resize(self.output.len(), self.read as u32);
+        self.rules.resize(self.output.len(), rule as u32);
     }
 
     /// 4: "the charge would exceed the cells lent". "Most" is the highest charge that is allowed here.
@@ -499,7 +523,7 @@ impl Machine<'_> {
             return Err(19);
         };
         let value = Rc::clone(&self.definitions[index].value);
-        self.give(&value)
+        self.give(&value, Rule::GivenByVal)
     }
 
     /// Checks: "15 for the name given, 19, 20, 21". The defined length stays, and the charge with it.
@@ -523,19 +547,19 @@ impl Machine<'_> {
 
     fn reckon(&mut self, operation: Operation) -> Scanned {
         let result = arithmetic::reckon(operation, self.item(1), self.item(2))?;
-        self.give(&result)
+        self.give(&result, Rule::GivenByBuiltIn)
     }
 
     /// "`SEQ` gives 1 if its two parameters are the same bytes, else 0."
     fn seq(&mut self) -> Scanned {
         let same = self.item(1) == self.item(2);
-        self.give(if same { b"1" } else { b"0" })
+        self.give(if same { b"1" } else { b"0" }, Rule::GivenByBuiltIn)
     }
 
     /// "`SIZE` gives the length of its parameter in decimal."
     fn size(&mut self) -> Scanned {
         let length = self.item(1).len();
-        self.give(length.to_string().as_bytes())
+        self.give(length.to_string().as_bytes(), Rule::GivenByBuiltIn)
     }
 
     /// "`IF` takes its parameters in pairs from the left and gives the second of the first pair whose first is exactly
@@ -546,23 +570,23 @@ impl Machine<'_> {
         while let (Some(condition), Some(second)) = (call.item(first), call.item(first + 1)) {
             if condition == b"1" {
                 let second = second.to_vec();
-                return self.give(&second);
+                return self.give(&second, Rule::GivenByBuiltIn);
             }
             first += 2;
         }
-        self.give(b"")
+        self.give(b"", Rule::GivenByBuiltIn)
     }
 
     /// "A VAL or arithmetic result is charged before its list goes, if it is collected": beside the cell of `;`,
     /// and by a call outside the one that ends here. The results of request Four are "charged and placed like VAL's".
-    fn give(&mut self, result: &[u8]) -> Scanned {
+    fn give(&mut self, result: &[u8], rule: Rule) -> Scanned {
         if self.calls.len() > 1 {
             self.allow(1 + result.len())?;
         } else {
             self.room(result.len())?;
         }
         self.end_built_in();
-        self.put(result);
+        self.put(result, rule);
         Ok(())
     }
 
@@ -593,6 +617,8 @@ impl Machine<'_> {
         End {
             report,
             output: self.output,
+            origins: self.origins,
+            rules: self.rules,
             standing: standing.collect(),
         }
     }

@@ -2,6 +2,7 @@
 //! parameters, is a list of pieces. It knows nothing of the scanning machine.
 use crate::arithmetic;
 use crate::ends::{End, Report, Standing};
+use crate::origins::Rule;
 use crate::signs::{self, BuiltIn, Table};
 use std::rc::Rc;
 
@@ -71,6 +72,16 @@ struct Known<'a> {
     depth: usize,
 }
 
+impl Known<'_> {
+    /// The rule of a byte that stands for itself here.
+    fn copying(&self) -> Rule {
+        match self.body {
+            Some(_) => Rule::FromBody,
+            None => Rule::FromText,
+        }
+    }
+}
+
 /// A body being read: the serial number of its definition, the parameters, and the body that it is read within.
 struct Body<'a> {
     serial: u64,
@@ -106,13 +117,20 @@ enum Made {
     Definition(Definition),
 }
 
+/// A byte of the output, the bytes of the text read when it came, and its rule.
+struct Written {
+    byte: u8,
+    read: u32,
+    rule: Rule,
+}
+
 /// What is handed on from stretch to stretch, with the table of kinds and the bounds, which stay.
 struct Handed<'b> {
     table: &'b Table,
     bounds: &'b Bounds,
     /// The newest stands last.
     definitions: Vec<Definition>,
-    output: Vec<u8>,
+    output: Vec<Written>,
     read: u64,
     scans: u64,
     charge: usize,
@@ -176,7 +194,7 @@ impl Handed<'_> {
                 signs::FETCH if known.body.is_some() => self.parameter(from, known, &mut pieces)?,
                 signs::FETCH if known.collected => return fault(11),
                 // "Where no call is collected, ... `;` and `~` in the text are plain."
-                _ => self.add(&[byte], known, &mut pieces)?,
+                _ => self.add(&[byte], known.copying(), known, &mut pieces)?,
             }
         }
     }
@@ -211,7 +229,7 @@ impl Handed<'_> {
                 signs::QUOTE => inner += 1,
                 _ => {}
             }
-            self.add(&[byte], known, pieces)?;
+            self.add(&[byte], known.copying(), known, pieces)?;
         }
     }
 
@@ -224,13 +242,13 @@ impl Handed<'_> {
         };
         from.at += 1;
         match parameters.get(number) {
-            Some(parameter) => self.add(parameter, known, pieces),
+            Some(parameter) => self.add(parameter, Rule::Fetched, known, pieces),
             None => fault(13),
         }
     }
 
     /// Bytes to the piece in hand; "where no call is collected, bytes go to the output".
-    fn add(&mut self, bytes: &[u8], known: Known, pieces: &mut Pieces) -> Result<(), Stop> {
+    fn add(&mut self, bytes: &[u8], rule: Rule, known: Known, pieces: &mut Pieces) -> Result<(), Stop> {
         if known.collected {
             self.rise(bytes.len())?;
             pieces.last_mut().expect("a piece in hand").extend_from_slice(bytes);
@@ -239,7 +257,9 @@ impl Handed<'_> {
         if self.output.len() + bytes.len() > self.bounds.output {
             return Err(Stop::NoEnd);
         }
-        self.output.extend_from_slice(bytes);
+        let read = self.read as u32;
+        self.output
+            .extend(bytes.iter().map(|&byte| Written { byte, read, rule }));
         Ok(())
     }
 
@@ -349,17 +369,23 @@ impl Handed<'_> {
                 let found = self.found(&list[1])?;
                 match &self.definitions[found].value {
                     Value::BuiltIn(_) => fault(19),
-                    Value::Text(text) => self.result(&Rc::clone(text), known),
+                    Value::Text(text) => self.result(&Rc::clone(text), Rule::GivenByVal, known),
                 }
             }
             BuiltIn::Update => self.update(&list[1], &list[2], known),
             BuiltIn::Arithmetic(operation) => match arithmetic::reckon(operation, &list[1], &list[2]) {
-                Ok(number) => self.result(&number, known),
+                Ok(number) => self.result(&number, Rule::GivenByBuiltIn, known),
                 Err(outcome) => fault(outcome),
             },
-            BuiltIn::Seq => self.result(if list[1] == list[2] { b"1" } else { b"0" }, known),
-            BuiltIn::Size => self.result(format!("{}", list[1].len()).as_bytes(), known),
-            BuiltIn::If => self.result(chosen(&list[1..]), known),
+            BuiltIn::Seq => {
+                let same = if list[1] == list[2] { b"1" } else { b"0" };
+                self.result(same, Rule::GivenByBuiltIn, known)
+            }
+            BuiltIn::Size => {
+                let length = format!("{}", list[1].len());
+                self.result(length.as_bytes(), Rule::GivenByBuiltIn, known)
+            }
+            BuiltIn::If => self.result(chosen(&list[1..]), Rule::GivenByBuiltIn, known),
         }
     }
 
@@ -378,9 +404,9 @@ impl Handed<'_> {
     }
 
     /// A result, charged if it is collected; its list is still there. So are the results of request Four.
-    fn result(&mut self, bytes: &[u8], known: Known) -> Result<Made, Stop> {
+    fn result(&mut self, bytes: &[u8], rule: Rule, known: Known) -> Result<Made, Stop> {
         let mut pieces = vec![Vec::new()];
-        self.add(bytes, known, &mut pieces)?;
+        self.add(bytes, rule, known, &mut pieces)?;
         Ok(Made::Pieces(pieces))
     }
 
@@ -442,7 +468,9 @@ impl<'b> Handed<'b> {
         };
         End {
             report,
-            output: self.output,
+            output: self.output.iter().map(|written| written.byte).collect(),
+            origins: self.output.iter().map(|written| written.read).collect(),
+            rules: self.output.iter().map(|written| written.rule as u32).collect(),
             standing,
         }
     }

@@ -152,6 +152,7 @@ fn hold_expansion(signs: &Checked, wanted: &[u8]) {
         cells: 0,
         output: length,
         allowance: length as u64 + 3,
+        numbers: None,
     };
     let end = run_signs(signs, &script, &enough);
     assert_eq!(line(&end), format!("0 {} {length} {} 0 0", length + 2, length + 3));

@@ -294,6 +294,7 @@ fn hold_limits(script: &str, end: &End) {
         cells: report.most as usize,
         output: report.written as usize,
         allowance: report.scans,
+        numbers: None,
     };
     let outcome = |lent: Lent| run(script.as_bytes(), &lent).report.outcome;
     assert_eq!(run(script.as_bytes(), &enough), *end, "{script}");

@@ -105,6 +105,7 @@ fn report(signs: &[u8], script: &[u8], cells: usize, output: usize, allowance: u
         cells,
         output,
         allowance,
+        numbers: None,
     };
     line(&run_signs(&Table::accepted(signs), script, &lent))
 }
@@ -251,6 +252,8 @@ fn exchange_end(end: End, signs: &[u8; 6]) -> End {
     End {
         report: end.report,
         output: exchange(&end.output, signs),
+        origins: end.origins,
+        rules: end.rules,
         standing: standing.collect(),
     }
 }

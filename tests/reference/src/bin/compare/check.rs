@@ -7,13 +7,15 @@ use crate::lending;
 use crate::library;
 use crate::memory::Memory;
 use crate::naming::{self, Names};
+use crate::origins;
 use crate::script::Script;
+use crate::tracing::{self, Scans};
 use reference::ends::{End, Report, Sort};
 use reference::scanning::{self, Lent};
 use reference::substitution::{substitute, Bounds};
 
-/// What a script's run is lent, and how it ends by scanning, with the ways that `~`, the words from M6, empty names
-/// and divisions went and the course of the charge.
+/// What a script's run is lent, and how it ends by scanning, with the ways that `~`, the words from M6, empty names,
+/// divisions and origins went and the course of the charge.
 pub struct Run {
     pub lent: Lent,
     pub scanned: End,
@@ -22,6 +24,7 @@ pub struct Run {
     giving: giving::Ways,
     names: Names,
     dividing: dividing::Ways,
+    tracing: tracing::Ways,
 }
 
 /// The ways that a run came to, which are counted.
@@ -31,13 +34,14 @@ pub struct Told {
     pub giving: giving::Ways,
     pub naming: naming::Ways,
     pub dividing: dividing::Ways,
+    pub tracing: tracing::Ways,
 }
 
 impl Run {
     pub fn new(script: &Script, lent: Lent) -> Run {
         let (mut fetching, mut giving) = (fetching::Ways::default(), giving::Ways::default());
         let (mut course, mut names) = (Course::default(), Names::default());
-        let mut dividing = dividing::Ways::default();
+        let (mut dividing, mut scans) = (dividing::Ways::default(), Scans::default());
         let scanned = scanning::run_traced(script.checked(), &script.text, &lent, &mut |row| {
             if let Some(way) = fetching::way(row) {
                 fetching[way] = true;
@@ -48,7 +52,11 @@ impl Run {
             dividing::follow(&mut dividing, row, lent.cells);
             course.follow(row);
             names.follow(row);
+            if script.asks() {
+                scans.follow(script, row);
+            }
         });
+        let tracing = tracing::ways(&lent, &scanned, &scans);
         Run {
             lent,
             scanned,
@@ -57,6 +65,7 @@ impl Run {
             giving,
             names,
             dividing,
+            tracing,
         }
     }
 
@@ -68,6 +77,7 @@ impl Run {
             giving: self.giving,
             naming: self.names.ways(),
             dividing: self.dividing,
+            tracing: self.tracing,
         }
     }
 }
@@ -88,6 +98,8 @@ pub struct Difference {
     pub run: Run,
     pub report: Report,
     pub output: Vec<u8>,
+    /// The first places of the runs of numbers, if lent: origins and rules.
+    pub numbers: [Vec<u32>; 2],
     pub substituted: Substituted,
 }
 
@@ -99,19 +111,25 @@ pub fn check(
     substituted: &Substituted,
 ) -> Result<Report, Box<Difference>> {
     memory.lend(script, &run.lent);
-    let report = library::expand(memory, script.signs().is_some(), run.lent.allowance);
-    let checked = against_scanning(memory, &report, &run.scanned)
+    let report = match run.lent.numbers {
+        Some(_) => library::expand_origins(memory, run.lent.allowance),
+        None => library::expand(memory, script.signs().is_some(), run.lent.allowance),
+    };
+    let checked = against_scanning(memory, &report, &run)
         .and_then(|()| left(memory, script, &report))
+        .and_then(|()| origins::left(memory, &run.lent, report.written as usize))
         .and_then(|()| against_substitution(memory, script, &report, &run, substituted));
     checked.map(|()| report).map_err(|what| {
         let written = memory.output.lent().len().min(report.written as usize);
         let output = memory.output.lent()[..written].to_vec();
+        let numbers = origins::first(memory, &run.lent, written);
         let substituted = substituted.clone();
         Box::new(Difference {
             what,
             run,
             report,
             output,
+            numbers,
             substituted,
         })
     })
@@ -125,9 +143,11 @@ fn wrote(memory: &Memory, end: &End) -> bool {
     memory.output.lent().get(..end.output.len()) == Some(&end.output)
 }
 
-fn against_scanning(memory: &Memory, report: &Report, scanned: &End) -> Result<(), String> {
+fn against_scanning(memory: &Memory, report: &Report, run: &Run) -> Result<(), String> {
+    let scanned = &run.scanned;
     hold(*report == scanned.report, "the report is not that of scanning")?;
-    hold(wrote(memory, scanned), "the output is not that of scanning")
+    hold(wrote(memory, scanned), "the output is not that of scanning")?;
+    origins::against(memory, &run.lent, scanned, "scanning")
 }
 
 /// What the memory holds after the run.
@@ -176,9 +196,11 @@ fn against_substitution(
     }
     match substituted {
         Err(outcome) => hold(report.outcome == *outcome, "the signs are refused otherwise"),
+        Ok(_) if lending::numbers_too_short(&run.lent) => hold(report.outcome == 35, "the outcome is not 35"),
         Ok(Some(end)) if lending::suffices(&run.lent, &end.report) => {
             hold(*report == end.report, "the report is not that of substitution")?;
             hold(wrote(memory, end), "the output is not that of substitution")?;
+            origins::against(memory, &run.lent, end, "substitution")?;
             let own = end.report.is(Sort::Finish) || end.report.is(Sort::Fault);
             hold(own, "substitution has no such outcome")?;
             let same = run.scanned.standing == end.standing;

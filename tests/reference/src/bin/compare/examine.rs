@@ -1,5 +1,7 @@
 //! One script: with plenty, about what it needs, often about a record of its charge or with one cell fewer than 33 needs,
-//! with all that may be lent where the cells were soon too few, and now and then about the longest that may be lent.
+//! with all that may be lent where the cells were soon too few, now and then about the longest that may be lent, and
+//! where it asks for origins often with too few numbers.
+use crate::asking;
 use crate::check::{check, substituted, Difference, Run};
 use crate::lending;
 use crate::memory::Memory;
@@ -14,41 +16,58 @@ const LONG: u64 = 300;
 /// The runs of a script; the first is the one with plenty.
 pub fn runs(script: &Script, random: &mut Random) -> Vec<Run> {
     let plenty = lending::generous(&script.text, random);
-    let first = Run::new(script, plenty);
+    let first = Run::new(script, asking::with_enough(script, plenty, random));
     let need = first.scanned.report;
-    let records = first.course.inner_records().to_vec();
-    let mut runs = vec![first];
-    for _ in 0..if need.scans < LONG { 2 } else { 1 } {
-        runs.push(Run::new(script, lending::around(&need, &plenty, random)));
-    }
-    if !records.is_empty() && random.one_in(4) {
-        runs.push(Run::new(script, lending::about_record(&records, &plenty, random)));
-    }
-    if need.outcome == 33 && random.one_in(2) {
-        runs.push(Run::new(script, lending::one_cell_short(&need, &plenty)));
-    }
     let soon_too_few = need.outcome == 4 && need.scans < LONG;
+    let about = about(&first, &plenty, random);
+    let mut runs = vec![first];
+    runs.extend(about.into_iter().map(|lent| with_some(script, lent, random)));
     if soon_too_few {
         runs.extend(with_all(script, &plenty, random));
     }
-    // Often where the signs are refused, as 2 comes before that, and always where the cells were soon too few.
+    // Always where the cells were soon too few, and often where the signs or the numbers may be refused, as 2 comes
+    // before that.
     let seldom = match script.checked() {
         _ if soon_too_few => 1,
         Err(_) => 8,
+        Ok(_) if script.asks() => 12,
         Ok(_) => 250,
     };
     if random.one_in(seldom) {
-        runs.push(Run::new(script, lending::longest(&need, &plenty, random)));
+        let longest = lending::longest(&need, &plenty, random);
+        runs.push(with_some(script, longest, random));
+    }
+    if script.asks() && random.one_in(3) {
+        runs.push(Run::new(script, asking::with_too_few(script, plenty, random)));
     }
     runs
+}
+
+/// What is lent about the needs that the run with plenty came to.
+fn about(first: &Run, plenty: &Lent, random: &mut Random) -> Vec<Lent> {
+    let need = &first.scanned.report;
+    let times = if need.scans < LONG { 2 } else { 1 };
+    let mut about: Vec<Lent> = (0..times).map(|_| lending::around(need, plenty, random)).collect();
+    let records = first.course.inner_records();
+    if !records.is_empty() && random.one_in(4) {
+        about.push(lending::about_record(records, plenty, random));
+    }
+    if need.outcome == 33 && random.one_in(2) {
+        about.push(lending::one_cell_short(need, plenty));
+    }
+    about
+}
+
+fn with_some(script: &Script, lent: Lent, random: &mut Random) -> Run {
+    Run::new(script, asking::with_some(script, lent, random))
 }
 
 /// The run with all that may be lent, and one about what it needs.
 fn with_all(script: &Script, plenty: &Lent, random: &mut Random) -> [Run; 2] {
     let all = lending::all(plenty);
-    let run = Run::new(script, all);
+    let run = Run::new(script, asking::with_enough(script, all, random));
     let about = lending::around(&run.scanned.report, &all, random);
-    [run, Run::new(script, about)]
+    [run, with_some(script, about, random)]
 }
 
 /// Every check of one script, to the first difference.
@@ -69,8 +88,12 @@ pub fn simplest(memory: &mut Memory, script: &Script, known: Lent) -> Option<Box
     let plenty = lending::generous(&script.text, &mut Random::new(0, 0));
     let need = Run::new(script, plenty).scanned.report;
     let mut lent = lending::combinations(&need, &plenty);
+    if script.asks() {
+        lent = asking::simplest(lent, &known);
+    }
     if lending::ended(&need) || known.allowance <= plenty.allowance {
-        lent.push(known);
+        let numbers = known.numbers.filter(|_| script.asks());
+        lent.push(Lent { numbers, ..known });
     }
     let substituted = substituted(script, &lending::bounds(lent.iter().copied()));
     lent.into_iter()

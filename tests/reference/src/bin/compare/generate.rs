@@ -3,6 +3,7 @@ use crate::brim;
 use crate::bulk_words;
 use crate::faults::PLANTED;
 use crate::grower::grown;
+use crate::lending::LONGEST;
 use crate::menu_wheels;
 use crate::noise;
 use crate::own_signs;
@@ -10,6 +11,7 @@ use crate::random::Random;
 use crate::refused_signs;
 use crate::script::Script;
 use crate::soak;
+use reference::signs::Table;
 
 /// One script in so many is a soak script, one in so many has a division at its end, one in so many comes up to the
 /// most cells that may be lent, and one in so many calls the words from M6 with thousands of bytes.
@@ -17,6 +19,10 @@ const SOAKS: usize = 25;
 const DIVISIONS: usize = 25;
 const BRIMS: usize = 300;
 const BULKS: usize = 120;
+/// One script in so many asks where each byte came from, and of these one in so many writes at the end of the longest
+/// text.
+const ASKING: usize = 5;
+const FAR: usize = 1_000;
 
 /// How many items a script is grown from: mostly few, seldom hundreds.
 fn size(random: &mut Random) -> usize {
@@ -35,6 +41,25 @@ fn long(random: &mut Random) -> Vec<u8> {
     let mut text = vec![b'y'; length.saturating_sub(script.len())];
     text.extend(script);
     text
+}
+
+/// A text about as long as may be lent, whose last byte writes by one of the rules.
+fn far(random: &mut Random) -> Vec<u8> {
+    const HEAD: &str = "$DEF,k,<b,~1>;$DEF,j,<($k,~1;$VAL,k;)>;<";
+    const ENDS: [&str; 8] = [
+        "y",
+        ",",
+        "<,",
+        "$k,cd;",
+        "$j,cd;",
+        "$VAL,k;",
+        "$SIZE,ab;",
+        "$IF,1,$k,cd;;",
+    ];
+    let end = random.pick(&ENDS);
+    let length = LONGEST - if random.one_in(4) { random.below(300) } else { 0 };
+    let within = "y".repeat(length - HEAD.len() - 1 - end.len());
+    format!("{HEAD}{within}>{end}").into_bytes()
 }
 
 fn text(random: &mut Random) -> Vec<u8> {
@@ -78,9 +103,24 @@ fn refused(text: Vec<u8>, random: &mut Random) -> Script {
     Script::new(text, Some(refused_signs::refused(random)))
 }
 
-/// Two of five have signs that are lent, and of these one in four is refused.
+/// A script that asks where each byte came from, under the standard signs or under others, some of which are refused.
+fn asking(text: Vec<u8>, random: &mut Random) -> Script {
+    let text = if random.one_in(FAR) { far(random) } else { text };
+    let script = match random.below(20) {
+        0..=2 => refused(text, random),
+        3..=10 => own_signs::written(text, random),
+        _ => Script::new(text, Some(Table::STANDARD.kinds().to_vec())),
+    };
+    script.asking()
+}
+
+/// One in five asks where each byte came from. Of the others two of five have signs that are lent, and of these one in
+/// four is refused.
 pub fn script(random: &mut Random) -> Script {
     let text = text(random);
+    if random.one_in(ASKING) {
+        return asking(text, random);
+    }
     match random.below(20) {
         0..=1 => refused(text, random),
         2..=7 => own_signs::written(text, random),

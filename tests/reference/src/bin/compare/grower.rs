@@ -8,6 +8,7 @@ use crate::nameless;
 use crate::numbers;
 use crate::random::Random;
 use crate::recursion;
+use crate::writing;
 
 /// Few and short, so that names are found, defined again and updated. A body calls and updates names that stand before
 /// its own in this list, so that it ends and is not being read when it is updated.
@@ -69,7 +70,7 @@ pub struct Known {
 type Weights = [usize; 3];
 type Item = fn(&mut Grower, Place);
 
-const ITEMS: [(Weights, Item); 29] = [
+const ITEMS: [(Weights, Item); 31] = [
     ([100, 150, 120], Grower::word),
     ([160, 60, 60], Grower::definition),
     ([260, 150, 220], Grower::call),
@@ -87,6 +88,8 @@ const ITEMS: [(Weights, Item); 29] = [
     ([5, 3, 3], m6_words::hidden),
     ([10, 5, 5], nameless::hidden),
     ([8, 4, 8], nameless::barely_named),
+    ([20, 0, 10], writing::rules),
+    ([10, 0, 5], writing::hidden),
     ([40, 30, 30], Grower::temporary),
     ([20, 15, 10], Grower::handed),
     ([30, 15, 10], Grower::maker),

@@ -274,6 +274,7 @@ fn lendings(length: usize, random: &mut Random) -> [(usize, Lent); 5] {
         cells: 0,
         output: length,
         allowance: length as u64 + 3,
+        numbers: None,
     };
     let (allowance, output) = (needs.allowance - 1, length.saturating_sub(1));
     let cells = random.between(1, 100);
@@ -281,6 +282,7 @@ fn lendings(length: usize, random: &mut Random) -> [(usize, Lent); 5] {
         cells: 4_096,
         output: plenty(length),
         allowance: u64::MAX,
+        numbers: None,
     };
     [
         (1, needs),

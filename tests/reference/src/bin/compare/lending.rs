@@ -12,6 +12,12 @@ pub fn too_long(text: &[u8], lent: &Lent) -> bool {
     text.len() > LONGEST || lent.cells > LONGEST || lent.output > LONGEST
 }
 
+/// Whether the run is outcome 35, unless it is 2 or the signs are refused.
+pub fn numbers_too_short(lent: &Lent) -> bool {
+    let numbers = lent.numbers.map(|numbers| numbers.origins.min(numbers.rules));
+    numbers.is_some_and(|shorter| shorter < lent.output)
+}
+
 /// Whether what is lent suffices for an end with these counts.
 pub fn suffices(lent: &Lent, end: &Report) -> bool {
     lent.cells as u64 >= end.most && lent.output as u64 >= end.written && lent.allowance >= end.scans
@@ -29,6 +35,7 @@ pub fn generous(text: &[u8], random: &mut Random) -> Lent {
         cells,
         output: text.len().clamp(8_192, LONGEST),
         allowance: 20_000 + text.len() as u64,
+        numbers: None,
     }
 }
 
@@ -50,6 +57,7 @@ pub fn around(need: &Report, plenty: &Lent, random: &mut Random) -> Lent {
         cells: near(need.most, plenty.cells as u64, random) as usize,
         output: near(need.written, plenty.output as u64, random) as usize,
         allowance: near(need.scans, plenty.allowance, random),
+        numbers: None,
     }
 }
 
@@ -101,6 +109,7 @@ pub fn longest(need: &Report, plenty: &Lent, random: &mut Random) -> Lent {
         cells,
         output,
         allowance: if ended(need) { u64::MAX } else { plenty.allowance },
+        numbers: None,
     }
 }
 
@@ -116,6 +125,7 @@ pub fn combinations(need: &Report, plenty: &Lent) -> Vec<Lent> {
         cells: cells[first],
         output: output[second],
         allowance: allowance[third],
+        numbers: None,
     };
     places.into_iter().map(lent).collect()
 }

@@ -2,6 +2,7 @@
 //!
 //!     compare [--bare] SEED COUNT     cases 0 to COUNT - 1 of a seed; bare lends memory without guards
 //!     compare --one SEED NUMBER       one case, shown
+mod asking;
 mod brim;
 mod built_ins;
 mod bulk_words;
@@ -29,6 +30,7 @@ mod nameless;
 mod naming;
 mod noise;
 mod numbers;
+mod origins;
 mod own_signs;
 mod random;
 mod recording;
@@ -42,6 +44,8 @@ mod signing;
 mod soak;
 mod tally;
 mod tell;
+mod tracing;
+mod writing;
 
 use check::Run;
 use found::Found;
@@ -126,7 +130,7 @@ fn show(case: &Case) {
             tell::script(script);
             for run in runs {
                 tell::lent(&run.lent);
-                tell::end("scanning", &run.scanned);
+                tell::end("scanning", &run.scanned, script.asks());
             }
         }
         Case::Keys(keys) => tell::keys(keys),

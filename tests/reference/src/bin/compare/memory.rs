@@ -3,51 +3,52 @@ use crate::keys::Keys;
 use crate::lending::LONGEST;
 use crate::random::Random;
 use crate::script::Script;
+use reference::origins::Numbers;
 use reference::scanning::Lent;
 use std::ops::Range;
 
-/// So many bytes, or cells, stand at least on each side.
+/// So many bytes, cells or numbers stand at least on each side.
 const GUARD: usize = 64;
 /// From where in the rubbish a run's may be taken.
-const ORIGINS: usize = 1_024;
+const STARTS: usize = 1_024;
 
-/// One of signs, text, cells and output.
+/// One of signs, text, cells, output, origins and rules.
 pub struct Area<T> {
     rubbish: Vec<T>,
     bare: bool,
     whole: Vec<T>,
     /// From where in the rubbish the whole was filled.
-    origin: usize,
+    start: usize,
     /// Where the lent part stands in the whole.
     lent: Range<usize>,
 }
 
 impl<T: Copy + PartialEq> Area<T> {
     fn new(bare: bool, mut rubbish: impl FnMut() -> T) -> Area<T> {
-        let rubbish = (0..ORIGINS + 2 * LONGEST + 4 * GUARD).map(|_| rubbish()).collect();
+        let rubbish = (0..STARTS + 2 * LONGEST + 4 * GUARD).map(|_| rubbish()).collect();
         Area {
             rubbish,
             bare,
             whole: Vec::new(),
-            origin: 0,
+            start: 0,
             lent: 0..0,
         }
     }
 
     /// Lends so much of it, at a place that is aligned now this way and now that. Bare, it is an allocation of exactly
     /// that length, which a memory checker watches.
-    fn lend(&mut self, length: usize, origin: usize) {
-        self.origin = origin;
+    fn lend(&mut self, length: usize, start: usize) {
+        self.start = start;
         if self.bare {
             self.lent = 0..length;
-            self.whole = self.rubbish[origin..origin + length].to_vec();
+            self.whole = self.rubbish[start..start + length].to_vec();
             return;
         }
-        let before = GUARD + origin % 8;
+        let before = GUARD + start % 8;
         self.lent = before..before + length;
         self.whole.clear();
         self.whole
-            .extend_from_slice(&self.rubbish[origin..origin + before + length + GUARD]);
+            .extend_from_slice(&self.rubbish[start..start + before + length + GUARD]);
     }
 
     /// Where the lent part begins, for the library alone. Where nothing is lent it is aligned and not null.
@@ -60,7 +61,7 @@ impl<T: Copy + PartialEq> Area<T> {
     }
 
     fn kept(&self, places: Range<usize>) -> bool {
-        self.whole[places.clone()] == self.rubbish[self.origin..][places]
+        self.whole[places.clone()] == self.rubbish[self.start..][places]
     }
 
     pub fn guards_kept(&self) -> bool {
@@ -85,8 +86,8 @@ fn rubbish_cell(random: &mut Random) -> u32 {
 
 impl Area<u8> {
     /// Lends these bytes.
-    fn lend_bytes(&mut self, bytes: &[u8], origin: usize) {
-        self.lend(bytes.len(), origin);
+    fn lend_bytes(&mut self, bytes: &[u8], start: usize) {
+        self.lend(bytes.len(), start);
         self.whole[self.lent.clone()].copy_from_slice(bytes);
     }
 }
@@ -96,6 +97,8 @@ pub struct Memory {
     pub text: Area<u8>,
     pub cells: Area<u32>,
     pub output: Area<u8>,
+    pub origins: Area<u32>,
+    pub rules: Area<u32>,
 }
 
 impl Memory {
@@ -107,26 +110,32 @@ impl Memory {
             text: Area::new(bare, || random.byte()),
             cells: Area::new(bare, || rubbish_cell(&mut random)),
             output: Area::new(bare, || random.byte()),
+            origins: Area::new(bare, || rubbish_cell(&mut random)),
+            rules: Area::new(bare, || rubbish_cell(&mut random)),
         }
     }
 
-    /// Lends signs, a text, cells and output, with rubbish that the text and the sizes alone decide. The signs are
-    /// aligned otherwise than the rest.
+    /// Lends signs, a text, cells, output and runs of numbers, with rubbish that the text and the sizes alone decide.
+    /// The signs and the numbers are aligned otherwise than the rest.
     pub fn lend(&mut self, script: &Script, lent: &Lent) {
         let text = &script.text;
-        let origin = (text.len() * 31 + lent.cells * 7 + lent.output) % ORIGINS;
+        let start = (text.len() * 31 + lent.cells * 7 + lent.output) % STARTS;
         let signs = script.signs().unwrap_or_default();
         self.signs
-            .lend_bytes(signs, (text.len() * 3 + lent.allowance as usize % ORIGINS) % ORIGINS);
-        self.text.lend_bytes(text, origin);
-        self.cells.lend(lent.cells, origin);
-        self.output.lend(lent.output, origin);
+            .lend_bytes(signs, (text.len() * 3 + lent.allowance as usize % STARTS) % STARTS);
+        self.text.lend_bytes(text, start);
+        self.cells.lend(lent.cells, start);
+        self.output.lend(lent.output, start);
+        if let Some(Numbers { origins, rules }) = lent.numbers {
+            self.origins.lend(origins, (start * 3 + origins) % STARTS);
+            self.rules.lend(rules, (start * 5 + rules + 1) % STARTS);
+        }
     }
 
     /// Lends wanted bytes, as the text, and output for their script. The two are aligned otherwise.
     pub fn lend_keys(&mut self, keys: &Keys) {
         let length = keys.wanted.len();
-        self.text.lend_bytes(&keys.wanted, (length * 5 + keys.output) % ORIGINS);
-        self.output.lend(keys.output, (length * 31 + keys.output * 7) % ORIGINS);
+        self.text.lend_bytes(&keys.wanted, (length * 5 + keys.output) % STARTS);
+        self.output.lend(keys.output, (length * 31 + keys.output * 7) % STARTS);
     }
 }

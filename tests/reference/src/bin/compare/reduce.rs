@@ -30,7 +30,7 @@ impl Reduced {
     }
 
     fn takes_signs(&mut self, memory: &mut Memory, signs: Option<Vec<u8>>) -> bool {
-        self.takes(memory, Script::new(self.script.text.clone(), signs))
+        self.takes(memory, self.script.with_signs(signs))
     }
 
     /// Puts a plainer byte for each word, everywhere at once, if a difference remains. So names are shortened together,
@@ -105,7 +105,7 @@ impl Reduced {
             shown => shown,
         };
         let text = self.script.text.iter().map(exchanged).collect();
-        self.takes(memory, Script::new(text, Some(signs)));
+        self.takes(memory, self.script.with_text(text).with_signs(Some(signs)));
     }
 }
 

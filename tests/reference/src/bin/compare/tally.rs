@@ -1,5 +1,5 @@
-//! How often each outcome was come to, each way that `~`, the charge, the words from M6, empty names and divisions
-//! went, and each row about signs that are lent and about keys.
+//! How often each outcome was come to, each way that `~`, the charge, the words from M6, empty names, divisions and
+//! origins went, and each row about signs that are lent and about keys.
 use crate::charging;
 use crate::check::Told;
 use crate::dividing;
@@ -10,21 +10,23 @@ use crate::keys::Keys;
 use crate::naming;
 use crate::script::Script;
 use crate::signing::{self, ROWS};
+use crate::tracing;
 use reference::ends::{sort, Report};
 use reference::keys::Made;
 use reference::scanning::Lent;
 
-const OUTCOMES: usize = 35;
+const OUTCOMES: usize = 36;
 /// The outcome of a call for keys that no run has.
 const NONE: usize = 34;
 /// The ways of `~` are counted in the places after the outcomes, then those of the charge, those of the words from M6,
-/// those of empty names, those of divisions, then the rows of signs, those of calls for keys and those of the runs of
-/// their scripts.
+/// those of empty names, those of divisions, those of origins, then the rows of signs, those of calls for keys and those
+/// of the runs of their scripts.
 const FIRST_OF_CHARGE: usize = OUTCOMES + fetching::WAYS.len();
 const FIRST_OF_WORDS: usize = FIRST_OF_CHARGE + charging::WAYS.len();
 const FIRST_OF_NAMES: usize = FIRST_OF_WORDS + giving::WAYS.len();
 const FIRST_OF_DIVISIONS: usize = FIRST_OF_NAMES + naming::WAYS.len();
-const FIRST_ROW: usize = FIRST_OF_DIVISIONS + dividing::WAYS.len();
+const FIRST_OF_ORIGINS: usize = FIRST_OF_DIVISIONS + dividing::WAYS.len();
+const FIRST_ROW: usize = FIRST_OF_ORIGINS + tracing::WAYS;
 const FIRST_OF_CALLS: usize = FIRST_ROW + ROWS.len();
 const FIRST_OF_RUNS: usize = FIRST_OF_CALLS + CALLS.len();
 const PLACES: usize = FIRST_OF_RUNS + RUNS.len();
@@ -35,6 +37,7 @@ fn asked(place: usize) -> bool {
         FIRST_OF_RUNS.. => RUNS[place - FIRST_OF_RUNS].1,
         FIRST_OF_CALLS.. => CALLS[place - FIRST_OF_CALLS].1,
         FIRST_ROW.. => ROWS[place - FIRST_ROW].1,
+        FIRST_OF_ORIGINS.. => tracing::asked(place - FIRST_OF_ORIGINS),
         NONE.. => true,
         _ => place != 2 && sort(place as u64).is_some(),
     }
@@ -45,6 +48,7 @@ fn label(place: usize) -> String {
         FIRST_OF_RUNS.. => RUNS[place - FIRST_OF_RUNS].0.to_string(),
         FIRST_OF_CALLS.. => CALLS[place - FIRST_OF_CALLS].0.to_string(),
         FIRST_ROW.. => ROWS[place - FIRST_ROW].0.to_string(),
+        FIRST_OF_ORIGINS.. => tracing::label(place - FIRST_OF_ORIGINS).to_string(),
         FIRST_OF_DIVISIONS.. => dividing::WAYS[place - FIRST_OF_DIVISIONS].0.to_string(),
         FIRST_OF_NAMES.. => naming::WAYS[place - FIRST_OF_NAMES].to_string(),
         FIRST_OF_WORDS.. => giving::WAYS[place - FIRST_OF_WORDS].to_string(),
@@ -67,6 +71,7 @@ fn places<'a>(script: &'a Script, report: &'a Report, told: &'a Told) -> impl It
         .chain(places_of(&told.giving, FIRST_OF_WORDS))
         .chain(places_of(&told.naming, FIRST_OF_NAMES))
         .chain(places_of(&told.dividing, FIRST_OF_DIVISIONS))
+        .chain(places_of(&told.tracing, FIRST_OF_ORIGINS))
         .chain(rows.map(|row| FIRST_ROW + row))
         .chain([report.outcome as usize])
 }
@@ -77,8 +82,9 @@ pub struct Tally {
     /// Runs, and calls for keys.
     runs: u64,
     calls: u64,
-    /// Scripts whose signs were lent.
+    /// Scripts whose signs were lent, and those that asked where each byte came from.
     signs_lent: u64,
+    asked: u64,
     /// Finished with 0 after reading bodies, with plenty lent.
     worked: u64,
     scans: u64,
@@ -92,6 +98,7 @@ impl Tally {
             runs: 0,
             calls: 0,
             signs_lent: 0,
+            asked: 0,
             worked: 0,
             scans: 0,
         }
@@ -103,6 +110,7 @@ impl Tally {
         }
         self.runs += 1;
         self.signs_lent += u64::from(plenty && script.signs().is_some());
+        self.asked += u64::from(plenty && script.asks());
         self.worked += u64::from(plenty && signing::finished_after_bodies(report));
         self.scans += report.scans;
     }
@@ -157,8 +165,8 @@ impl Tally {
         }
         let scripts = cases - self.calls;
         println!(
-            "{scripts} scripts, {} with signs lent, and {} calls for keys",
-            self.signs_lent, self.calls
+            "{scripts} scripts, {} with signs lent, {} of which ask for origins, and {} calls for keys",
+            self.signs_lent, self.asked, self.calls
         );
         println!(
             "{} runs, {} scans; {} finished with 0 after reading bodies",

@@ -36,6 +36,9 @@ pub fn lent(lent: &Lent) {
         "  lent: {} cells, {} bytes of output, {} scans",
         lent.cells, lent.output, lent.allowance
     );
+    if let Some(numbers) = lent.numbers {
+        println!("  and {} origins, {} rules", numbers.origins, numbers.rules);
+    }
 }
 
 fn run(who: &str, report: &Report, output: &[u8]) {
@@ -43,8 +46,17 @@ fn run(who: &str, report: &Report, output: &[u8]) {
     println!("    output: {}", output.escape_ascii());
 }
 
-pub fn end(who: &str, end: &End) {
+/// Where each byte came from.
+fn came_from(origins: &[u32], rules: &[u32]) {
+    println!("    origins: {origins:?}");
+    println!("    rules: {rules:?}");
+}
+
+pub fn end(who: &str, end: &End, asks: bool) {
     run(who, &end.report, &end.output);
+    if asks {
+        came_from(&end.origins, &end.rules);
+    }
     for standing in &end.standing {
         let (name, value) = (standing.name.escape_ascii(), standing.value.escape_ascii());
         println!(
@@ -59,9 +71,14 @@ pub fn difference(of: &Script, difference: &Difference) {
     script(of);
     lent(&difference.run.lent);
     run("library", &difference.report, &difference.output);
-    end("scanning", &difference.run.scanned);
+    let asks = of.asks();
+    if asks {
+        let [origins, rules] = &difference.numbers;
+        came_from(origins, rules);
+    }
+    end("scanning", &difference.run.scanned, asks);
     match &difference.substituted {
-        Ok(Some(substituted)) => end("substitution", substituted),
+        Ok(Some(substituted)) => end("substitution", substituted, asks),
         Ok(None) => println!("  substitution: no end within the bounds"),
         Err(outcome) => println!("  substitution: the signs are refused with {outcome}"),
     }
