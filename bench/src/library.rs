@@ -27,13 +27,31 @@ extern "C" {
         allowance: u64,
     ) -> Report;
 
+    fn gpm_expand_origins(
+        signs: *const u8,
+        signs_length: usize,
+        text: *const u8,
+        text_length: usize,
+        cells: *mut u32,
+        cells_length: usize,
+        output: *mut u8,
+        output_length: usize,
+        origins: *mut u32,
+        origins_length: usize,
+        rules: *mut u32,
+        rules_length: usize,
+        allowance: u64,
+    ) -> Report;
+
     fn gpm_script(wanted: *const u8, wanted_length: usize, output: *mut u8, output_length: usize) -> u64;
 }
 
-/// What the program `gpm` lends, for one run after another.
+/// What the program `gpm` lends, and both runs of numbers, for one run after another.
 pub struct Memory {
     cells: Vec<u32>,
     output: Vec<u8>,
+    origins: Vec<u32>,
+    rules: Vec<u32>,
 }
 
 impl Memory {
@@ -41,6 +59,8 @@ impl Memory {
         Memory {
             cells: vec![0; Lent::PROGRAM.cells],
             output: vec![0; Lent::PROGRAM.output],
+            origins: vec![0; Lent::PROGRAM.output],
+            rules: vec![0; Lent::PROGRAM.output],
         }
     }
 
@@ -78,6 +98,29 @@ impl Memory {
                 self.cells.len(),
                 self.output.as_mut_ptr(),
                 self.output.len(),
+                Lent::PROGRAM.allowance,
+            )
+        }
+    }
+
+    /// The same with the origins of what is written.
+    pub fn expand_origins(&mut self, text: &[u8]) -> Report {
+        let signs = Table::STANDARD;
+        // Safety: as above; the runs of numbers are live slices too, and are written.
+        unsafe {
+            gpm_expand_origins(
+                signs.kinds().as_ptr(),
+                signs.kinds().len(),
+                text.as_ptr(),
+                text.len(),
+                self.cells.as_mut_ptr(),
+                self.cells.len(),
+                self.output.as_mut_ptr(),
+                self.output.len(),
+                self.origins.as_mut_ptr(),
+                self.origins.len(),
+                self.rules.as_mut_ptr(),
+                self.rules.len(),
                 Lent::PROGRAM.allowance,
             )
         }

@@ -7,6 +7,7 @@ mod keys;
 mod library;
 mod machine;
 mod markdown;
+mod origins;
 mod processes;
 mod profile;
 mod signs;
@@ -82,6 +83,7 @@ fn measured(request: &Request) -> String {
     let machine = machine::described(programs.m4.as_deref());
     let in_process = in_process::table(&workloads, *rounds);
     let signs = signs::table(*rounds);
+    let origins = origins::table(&workloads, *rounds);
     let keys = keys::table(*rounds);
     let soak = soak::table(*rounds);
     let processes = processes::table(&programs, &workloads, *rounds);
@@ -91,6 +93,7 @@ fn measured(request: &Request) -> String {
         "Best of {rounds} rounds.\n\n{machine}\n\
          ### In process: the library and the reference\n\n{in_process}\n\
          ### Lent signs: gpm_expand_signs and gpm_expand\n\n{signs}\n\
+         ### Origins: gpm_expand_origins and gpm_expand_signs\n\n{origins}\n\
          ### A script for given keys: gpm_script and the reference\n\n{keys}\n\
          ### Soak: the same calls with more and more charged\n\n{soak}\n\
          ### Whole processes: gpm and m4\n\n{processes}\n\

@@ -167,6 +167,12 @@ module _ (T : Table) (text : Bytes) (n k : ℕ) where
       let h = g .inRange in
       (subst (λ (j : ℕ). Ready j r) (sym (g .cells)) (h .ready), omega (arith, g .counted), omega (arith, h .written, g .output))
 
+  -- or one portion of a single scan
+  pub oneReady : {r₀ r : Run} {m₀ m : Lent} {due₀ until : ℕ} → Going r₀ m₀ due₀ r m until → r .counts .scans < until
+      → InRange (length (m .cells)) (length (m .output)) r × (r .counts .scans + 1 ≤ lastScan)
+  oneReady {r = r} {m = m} g some =
+      (subst (λ (j : ℕ). InRange (length (m .cells)) j r) (sym (g .output)) (subst (λ (j : ℕ). InRange j k r) (sym (g .cells)) (g .inRange)), omega (arith, g .counted))
+
   -- the last scan that was due is made
   pub done : {r₀ r : Run} {m₀ m : Lent} {due₀ until : ℕ} → Going r₀ m₀ due₀ r m until → until ≤ r .counts .scans → length (m₀ .cells) ≡ n → length (m₀ .output) ≡ k
       → Advances T text due₀ r₀ m₀ (record { run = r; answer = GoesOn }) m × (M.goes r m ≡ M.steps due₀ T text (M.goes r₀ m₀))

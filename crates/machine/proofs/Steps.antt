@@ -35,6 +35,11 @@ steps-ended (suc k) kinds text a out = go (a .answer) out
     go Damaged over = refl
     go Refused over = refl
 
+-- one of them is that scan
+pub one-scan : (kinds text : List ℕ) (r : Run) (m : Lent) {a : After} → a ≡ steps 1 kinds text (goes r m) → a ≡ step r kinds text m
+unfolding steps
+one-scan kinds text r m e = e
+
 module _ (T : Table) (text first : Bytes) (n : ℕ) where
   abbrev L : Limits
   L = limitsOf n (length first)

@@ -43,7 +43,7 @@ pub fn go_on(
 }
 
 // No scan is made past the largest count.
-fn portion(allowance: u64, made: u64) -> u64
+pub(crate) fn portion(allowance: u64, made: u64) -> u64
     ensures { λ r. ⌜ (r ≡ portion allowance made) × (made + r ≤ lastScan) ⌝ }
 {
     let most = 18446744073709551615 - made;
@@ -51,7 +51,7 @@ fn portion(allowance: u64, made: u64) -> u64
 }
 
 // Scan after scan, until so many are made or the run ends.
-fn advance(
+pub(crate) fn advance(
     from: Run,
     due: u64,
     kinds: &[u8; 256],

@@ -1,4 +1,5 @@
 // Where each byte of the output came from: the scans of `go_on`, with the numbers of what each of them wrote.
+use crate::advance;
 use crate::layout;
 use crate::portion;
 use crate::run::Answer;
@@ -39,7 +40,8 @@ pub fn go_on_noting(
     }
 }
 
-// Scan after scan; what one writes is noted behind it, by the rule that was known before.
+// Scan after scan; what one writes is noted behind it, by the rule that was known before. Each is made by the loop of `go_on`: a
+// second caller of one scan would keep the compiler from putting it into that loop.
 fn advance_noting(
     from: Run,
     due: u64,
@@ -57,7 +59,7 @@ fn advance_noting(
     let mut run = from;
     while run.counts.scans < until {
         let rule = run.rule(kinds, cells);
-        let st = run.step(kinds, text, cells, output);
+        let st = advance(run, 1, kinds, text, cells, output);
         let answer = st.answer;
         let Answer::GoesOn = answer else {
             return st;

@@ -7,7 +7,8 @@ use borrow.Author.Needs.{needs}
 use Rattle.language.specs.Expansion.{lent}
 use Rattle.language.specs.Origins.{numbers}
 use Rattle.machine.proofs.Leaves.{not-on}
-use Rattle.machine.proofs.Advancing.{Going, begins, readyOf, onceMore, again, ends, done}
+use Rattle.machine.proofs.Advancing.{Going, begins, oneReady, onceMore, again, ends, done}
+use Rattle.machine.proofs.Steps.{one-scan}
 use Rattle.machine.proofs.Noting.{Notable, notable, noted-again, noted-ended, noted-done}
 use Rattle.machine.proofs.origins.advance_noting.Statement.{statement}
 use Rattle.machine.proofs.origins.advance_noting.Tie as tie
@@ -36,8 +37,8 @@ rule-requires c κs =
     let h = c .before .before .before .loop .inv .0 .inRange .ready in
     (h .callBelow, h .bodyBelow, h .offsetBelow)
 
-step-requires : tie.Need-step-requires Inv-loop μ-loop
-step-requires c κs = readyOf _ _ _ _ (c .before .before .before .before .before .before .loop .inv .0) (c .before .before .before .before .if1 .taken)
+advance-requires : tie.Need-advance-requires Inv-loop μ-loop
+advance-requires c κs = oneReady _ _ _ _ (c .before .before .before .before .before .before .loop .inv .0) (c .before .before .before .before .if1 .taken)
 
 enum-told : tie.Need-enum-told Inv-loop μ-loop
 enum-told c = search needs
@@ -59,10 +60,10 @@ returns c =
     let l = c .before .before .before .before .before .before .before .before .before .before .before .before .loop .inv in
     let g = l .0 in
     let some = c .before .before .before .before .before .before .before .before .before .before .if1 .taken in
-    let st = c .before .before .before .before .before .step in
+    let st = c .before .before .before .before .before .advance in
     let out = not-on (st .result .answer) (c .match .keys2) in (
-      ends _ _ _ _ g some _ (st .ensures) (omega (arith, c .before .before .before .before .cells .given, g .cells)) (omega (arith, c .before .before .output .given, g .output)) _ _ refl out refl refl .0,
-      noted-ended _ _ _ _ _ _ (l .1) some _ (st .ensures) out,
+      ends _ _ _ _ g some _ (one-scan _ _ _ _ (st .ensures .1)) (omega (arith, c .before .before .before .before .cells .given, g .cells)) (omega (arith, c .before .before .output .given, g .output)) _ _ refl out refl refl .0,
+      noted-ended _ _ _ _ _ _ (l .1) some _ (one-scan _ _ _ _ (st .ensures .1)) out,
     )
 
 note-requires : tie.Need-note-requires Inv-loop μ-loop
@@ -72,7 +73,7 @@ loop-less : tie.Need-loop-less Inv-loop μ-loop
 loop-less c =
     let g = c .before .before .before .before .before .before .before .before .before .before .before .before .before .before .before .before .before .before .before .before .before .loop .inv .0 in
     let some = c .before .before .before .before .before .before .before .before .before .before .before .before .before .before .before .before .before .before .before .if1 .taken in
-    let e = onceMore _ _ _ _ g some _ (c .before .before .before .before .before .before .before .before .before .before .before .before .before .before .step .ensures) (omega (arith, c .before .before .before .before .before .before .before .before .before .before .before .before .before .cells .given, g .cells)) (omega (arith, c .before .before .before .before .before .before .before .before .before .before .before .output .given, g .output)) (c .before .before .before .before .before .before .before .before .enum-told .given .1) in
+    let e = onceMore _ _ _ _ g some _ (one-scan _ _ _ _ (c .before .before .before .before .before .before .before .before .before .before .before .before .before .before .advance .ensures .1)) (omega (arith, c .before .before .before .before .before .before .before .before .before .before .before .before .before .cells .given, g .cells)) (omega (arith, c .before .before .before .before .before .before .before .before .before .before .before .output .given, g .output)) (c .before .before .before .before .before .before .before .before .enum-told .given .1) in
     omega (arith, some)
 
 loop-again : tie.Need-loop-again Inv-loop μ-loop
@@ -80,11 +81,11 @@ loop-again c =
     let l = c .before .before .before .before .before .before .before .before .before .before .before .before .before .before .before .before .before .before .before .before .before .loop .inv in
     let g = l .0 in
     let some = c .before .before .before .before .before .before .before .before .before .before .before .before .before .before .before .before .before .before .before .if1 .taken in
-    let st = c .before .before .before .before .before .before .before .before .before .before .before .before .before .before .step in
+    let st = c .before .before .before .before .before .before .before .before .before .before .before .before .before .before .advance in
     let on = c .before .before .before .before .before .before .before .before .enum-told .given .1 in
-    let once = onceMore _ _ _ _ g some _ (st .ensures) (omega (arith, c .before .before .before .before .before .before .before .before .before .before .before .before .before .cells .given, g .cells)) (omega (arith, c .before .before .before .before .before .before .before .before .before .before .before .output .given, g .output)) on in (
-      again _ _ _ _ g some _ (st .ensures) (omega (arith, c .before .before .before .before .before .before .before .before .before .before .before .before .before .cells .given, g .cells)) (omega (arith, c .before .before .before .before .before .before .before .before .before .before .before .output .given, g .output)) (λ i. c .before .before .before .before .before .before .before .before .before .before .before .before .slice-known5 .given i .fits) on,
-      noted-again _ _ _ _ _ _ (l .1) some _ (st .ensures) on once (c .before .before .before .before .before .before .before .before .before .before .before .before .before .before .before .before .before .rule .ensures) (c .before .before .before .before .before .note .ensures),
+    let once = onceMore _ _ _ _ g some _ (one-scan _ _ _ _ (st .ensures .1)) (omega (arith, c .before .before .before .before .before .before .before .before .before .before .before .before .before .cells .given, g .cells)) (omega (arith, c .before .before .before .before .before .before .before .before .before .before .before .output .given, g .output)) on in (
+      again _ _ _ _ g some _ (one-scan _ _ _ _ (st .ensures .1)) (omega (arith, c .before .before .before .before .before .before .before .before .before .before .before .before .before .cells .given, g .cells)) (omega (arith, c .before .before .before .before .before .before .before .before .before .before .before .output .given, g .output)) (λ i. c .before .before .before .before .before .before .before .before .before .before .before .before .slice-known5 .given i .fits) on,
+      noted-again _ _ _ _ _ _ (l .1) some _ (one-scan _ _ _ _ (st .ensures .1)) on once (c .before .before .before .before .before .before .before .before .before .before .before .before .before .before .before .before .before .rule .ensures) (c .before .before .before .before .before .note .ensures),
       omega (arith, c .before .before .before .before .origins .given, l .2),
       omega (arith, c .before .before .rules .given, l .3),
     )
@@ -119,7 +120,7 @@ advance-noting-spec =
     add-until
     loop-holds
     rule-requires
-    step-requires
+    advance-requires
     enum-told
     same-length
     same-length-2
