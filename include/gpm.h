@@ -135,28 +135,28 @@ gpm_report gpm_expand_signs(const uint8_t *signs, size_t signs_length, const uin
 
 /* By which rule a byte of the output was written. */
 enum gpm_rule {
-    GPM_COPIED_FROM_TEXT = 1,    /* copied from the text, quoted or not, also a , ; or ~ that is copied */
-    GPM_COPIED_FROM_BODY = 2,    /* copied from the body of a definition */
-    GPM_FETCHED = 3,             /* fetched by ~, whichever the parameter */
-    GPM_GIVEN_BY_VAL = 4,        /* given by VAL */
-    GPM_GIVEN_BY_BUILT_IN = 5    /* given by another built-in */
+    GPM_COPIED_FROM_TEXT = 1, /* copied from the text, quoted or not, also a , ; or ~ that is copied */
+    GPM_COPIED_FROM_BODY = 2, /* copied from the body of a definition, quoted or not */
+    GPM_FETCHED = 3,          /* fetched by ~, whichever the parameter */
+    GPM_GIVEN_BY_VAL = 4,     /* given by VAL */
+    GPM_GIVEN_BY_BUILT_IN = 5 /* given by another built-in */
 };
 
 /*
  * The same as gpm_expand_signs, and for each byte of the output where it came from.
  *
- * Report, output and cells are those of gpm_expand_signs. For each of the first report.written places, origins holds the
- * bytes of the text read by the end of the scan that wrote the output byte at that place, and rules holds one of
- * enum gpm_rule. So the byte of the text behind it is text[origins[i] - 1]: the byte itself where it was copied from the
- * text, and else the ; of the outermost call in which it was written. Origins never fall from place to place, are at
- * least 1 and are at most report.read. The places behind these are as they were in both.
+ * Report, output and cells are those of gpm_expand_signs. For each of the first report.written places, origins holds
+ * the bytes of the text read by the end of the scan that wrote the output byte at that place, and rules holds one of
+ * enum gpm_rule. Origins never fall from place to place, are at least 1 and are at most report.read; so
+ * text[origins[i] - 1] is always a byte of the text. A byte copied from the text is that byte; for all others it is how
+ * far the text had been read, up to the ; of the call. The places behind these are as they were in both.
  *
  * The checks are made in the order 2, 30, 31, 32, 35, and the first that holds is the outcome, with all counts 0 and
  * nothing touched. origins and rules may be longer than the output, and what they hold before does not matter.
  *
  * The caller: as above; origins and rules point to as many numbers as their lengths say, and not to NULL, and lie at
- * multiples of 4; none of the six overlaps another, but that signs and text may; nothing else reads or writes origins
- * and rules before the call returns.
+ * multiples of 4; neither overlaps the other or anything else that is lent; nothing else reads or writes them before
+ * the call returns.
  */
 gpm_report gpm_expand_origins(const uint8_t *signs, size_t signs_length, const uint8_t *text, size_t text_length,
                               uint32_t *cells, size_t cells_length, uint8_t *output, size_t output_length,

@@ -48,6 +48,7 @@ static const char *in_words(uint64_t outcome)
     case GPM_RESERVED_SIGN: return "a letter, a digit, +, - or * is a sign";
     case GPM_EMPTY_NAME: return "DEF of an empty name";
     case GPM_NO_SCRIPT: return "no script gives the wanted keys";
+    case GPM_NUMBERS_TOO_SHORT: return "origins or rules shorter than the output";
     }
     return "an outcome that gpm.h does not have";
 }
