@@ -16,7 +16,7 @@ use Rattle.machine.specs.Machine as M
 use Rattle.machine.specs.Machine.{After, Ready, InRange, lastScan}
 use Rattle.machine.specs.Moving.{isInRange, Advances}
 use Rattle.machine.proofs.Keeping.{Kept, stepKept}
-use Rattle.machine.proofs.Steps.{steps-ended, moving}
+use Rattle.machine.proofs.Steps.{steps-ended, steps-add, moving}
 
 -- The test of a standing ---------------------------------------------------------------------------------------------
 
@@ -91,6 +91,8 @@ module _ (T : Table) (text : Bytes) (n k : ℕ) where
     pub small : (i : ℕ) → getD (m .cells) i 0 < 4294967296
     pub inRange : InRange n k r
     pub counted : until ≤ lastScan
+    pub notPast : r .counts .scans ≤ until
+    pub all : until ≡ r₀ .counts .scans + due₀
     pub made : M.steps due₀ T text (M.goes r₀ m₀) ≡ M.steps (until - r .counts .scans) T text (M.goes r m)
 
   pub begins : (r : Run) (m : Lent) (due : ℕ) → length (m .cells) ≡ n → length (m .output) ≡ k → ((i : ℕ) → getD (m .cells) i 0 < 4294967296)
@@ -103,6 +105,8 @@ module _ (T : Table) (text : Bytes) (n k : ℕ) where
         small = b;
         inRange = h;
         counted = t;
+        notPast = omega arith;
+        all = refl;
         made = ap (λ (j : ℕ). M.steps j T text (M.goes r m)) all;
       }
 
@@ -145,6 +149,8 @@ module _ (T : Table) (text : Bytes) (n k : ℕ) where
       small = b;
       inRange = kept .kept out;
       counted = g .counted;
+      notPast = omega (arith, kept .counted out);
+      all = g .all;
       made =
           stepped
           ∙ ap (λ (y : Answer). M.steps (until - (r .counts .scans + 1)) T text (record { run = a .run; answer = y; lent = a .lent })) out
@@ -152,13 +158,14 @@ module _ (T : Table) (text : Bytes) (n k : ℕ) where
     }
 
     pub ends : (st : Stepped) (m′ : Lent) → a ≡ M.leaves st m′ → (a .answer ≡ GoesOn → ⊥) → length (m₀ .cells) ≡ n → length (m₀ .output) ≡ k
-        → Advances T text due₀ r₀ m₀ st m′ × (M.leaves st m′ ≡ M.steps due₀ T text (M.goes r₀ m₀))
+        → Advances T text due₀ r₀ m₀ st m′ × (M.leaves st m′ ≡ M.steps due₀ T text (M.goes r₀ m₀)) × (st .answer ≡ GoesOn → st .run .counts .scans ≡ r₀ .counts .scans + due₀)
     ends st m′ is out c o =
         let told : st .answer ≡ a .answer = ap (λ (j : After). j .answer) (sym is) in
         let left : a .lent ≡ m′ = ap (λ (j : After). j .lent) is in
-        advances (sym (stepped ∙ steps-ended (until - (r .counts .scans + 1)) T text a out ∙ is)) c o
+        let (is₁, is₂) = advances (sym (stepped ∙ steps-ended (until - (r .counts .scans + 1)) T text a out ∙ is)) c o
         (ap (λ (y : Lent). length (y .cells)) (sym left) ∙ cs) (ap (λ (y : Lent). length (y .output)) (sym left) ∙ os)
-        (λ q. kept .told (sym told ∙ q)) (λ q. absurd (out (sym told ∙ q)))
+        (λ q. kept .told (sym told ∙ q)) (λ q. absurd (out (sym told ∙ q))) in
+        (is₁, is₂, λ q. absurd (out (sym told ∙ q)))
 
   -- a scan can be made
   pub readyOf : {r₀ r : Run} {m₀ m : Lent} {due₀ until : ℕ} → Going r₀ m₀ due₀ r m until → r .counts .scans < until
@@ -167,17 +174,51 @@ module _ (T : Table) (text : Bytes) (n k : ℕ) where
       let h = g .inRange in
       (subst (λ (j : ℕ). Ready j r) (sym (g .cells)) (h .ready), omega (arith, g .counted), omega (arith, h .written, g .output))
 
-  -- or one portion of a single scan
-  pub oneReady : {r₀ r : Run} {m₀ m : Lent} {due₀ until : ℕ} → Going r₀ m₀ due₀ r m until → r .counts .scans < until
-      → InRange (length (m .cells)) (length (m .output)) r × (r .counts .scans + 1 ≤ lastScan)
-  oneReady {r = r} {m = m} g some =
-      (subst (λ (j : ℕ). InRange (length (m .cells)) j r) (sym (g .output)) (subst (λ (j : ℕ). InRange j k r) (sym (g .cells)) (g .inRange)), omega (arith, g .counted))
-
   -- the last scan that was due is made
   pub done : {r₀ r : Run} {m₀ m : Lent} {due₀ until : ℕ} → Going r₀ m₀ due₀ r m until → until ≤ r .counts .scans → length (m₀ .cells) ≡ n → length (m₀ .output) ≡ k
       → Advances T text due₀ r₀ m₀ (record { run = r; answer = GoesOn }) m × (M.goes r m ≡ M.steps due₀ T text (M.goes r₀ m₀))
+      × (GoesOn ≡ GoesOn → r .counts .scans ≡ r₀ .counts .scans + due₀)
   unfolding M.steps
   done {r = r} {m = m} {due₀ = due₀} {until} g over c o =
       let none : until - r .counts .scans ≡ 0 = omega arith in
-      advances (sym (g .made ∙ ap (λ (j : ℕ). M.steps j T text (M.goes r m)) none)) c o (g .cells) (g .output)
-      (λ q. let z : _≡_ {A = ℕ} 0 1 = cc in omega arith) (λ q. g .inRange)
+      let (is₁, is₂) = advances (sym (g .made ∙ ap (λ (j : ℕ). M.steps j T text (M.goes r m)) none)) c o (g .cells) (g .output)
+      (λ q. let z : _≡_ {A = ℕ} 0 1 = cc in omega arith) (λ q. g .inRange) in
+      (is₁, is₂, λ q. omega (arith, g .notPast, g .all))
+
+  -- Several scans at a time ----------------------------------------------------------------------------------------
+
+  module _ {r₀ r : Run} {m₀ m : Lent} {due₀ until : ℕ} (g : Going r₀ m₀ due₀ r m until) (p : ℕ) (few : p ≤ until - r .counts .scans)
+      (st : Stepped) (m′ : Lent) (is : M.leaves st m′ ≡ M.steps p T text (M.goes r m)) (cs : length (m′ .cells) ≡ n) (os : length (m′ .output) ≡ k) where
+    several : M.steps due₀ T text (M.goes r₀ m₀) ≡ M.steps (until - (r .counts .scans + p)) T text (M.leaves st m′)
+    several =
+        let parts : until - r .counts .scans ≡ p + (until - (r .counts .scans + p)) = omega arith in
+        g .made
+        ∙ ap (λ (j : ℕ). M.steps j T text (M.goes r m)) parts
+        ∙ steps-add p (until - (r .counts .scans + p)) T text (M.goes r m)
+        ∙ ap (M.steps (until - (r .counts .scans + p)) T text) (sym is)
+
+    pub more : ((i : ℕ) → getD (m′ .cells) i 0 < 4294967296) → st .answer ≡ GoesOn → st .run .counts .scans ≡ r .counts .scans + p → InRange n k (st .run)
+        → Going r₀ m₀ due₀ (st .run) m′ until
+    more b on scans inRange = record {
+      cells = cs;
+      output = os;
+      small = b;
+      inRange = inRange;
+      counted = g .counted;
+      notPast = omega (arith, g .notPast);
+      all = g .all;
+      made =
+          several
+          ∙ ap (λ (y : Answer). M.steps (until - (r .counts .scans + p)) T text (record { run = st .run; answer = y; lent = m′ })) on
+          ∙ ap (λ (j : ℕ). M.steps (until - j) T text (M.goes (st .run) m′)) (sym scans);
+    }
+
+    pub over : (st .answer ≡ Refused → ⊥) → (st .answer ≡ GoesOn → ⊥) → length (m₀ .cells) ≡ n → length (m₀ .output) ≡ k → Advances T text due₀ r₀ m₀ st m′
+    over told out c o =
+        advances (sym (several ∙ steps-ended (until - (r .counts .scans + p)) T text (M.leaves st m′) out)) c o cs os told (λ q. absurd (out q)) .0
+
+  -- a number of scans that is due
+  pub severalReady : {r₀ r : Run} {m₀ m : Lent} {due₀ until : ℕ} → Going r₀ m₀ due₀ r m until → (p : ℕ) → p ≤ until - r .counts .scans → r .counts .scans < until
+      → InRange (length (m .cells)) (length (m .output)) r × (r .counts .scans + p ≤ lastScan)
+  severalReady {r = r} {m = m} g p few some =
+      (subst (λ (j : ℕ). InRange (length (m .cells)) j r) (sym (g .output)) (subst (λ (j : ℕ). InRange j k r) (sym (g .cells)) (g .inRange)), omega (arith, g .counted))

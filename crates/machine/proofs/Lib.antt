@@ -24,9 +24,9 @@ pub mod Giving
 pub mod Performing
 pub mod Simulating
 pub mod Rules
-pub mod Noting
 pub mod Keeping
 pub mod Steps
+pub mod Noting
 pub mod Advancing
 pub mod Fresh
 pub mod Carried

@@ -22,19 +22,25 @@ use Rattle.language.proofs.Origins.{scan-writes, none-at-end, origins-stop}
 use Rattle.machine.specs.declared.run.Run.{Run}
 use Rattle.machine.specs.declared.run.Answer.the-variants.{GoesOn}
 use Rattle.machine.specs.Walks.{cell}
-use Rattle.machine.specs.Machine.{After, step}
+use Rattle.machine.specs.Machine.{After, goes, step, steps}
 use Rattle.machine.specs.Held.{Represents}
 use Rattle.machine.specs.Moving.{Holds}
-use Rattle.machine.specs.Origins.{notedFrom, Noted, rule, note}
+use Rattle.machine.specs.Origins.{notedFrom, Noted, rule, note, noteUnless, atOnce}
 use Rattle.machine.proofs.Lists.{cell-is}
 use Rattle.machine.proofs.Represents.{Simulates, goes as simulates, stops, outputSize}
 use Rattle.machine.proofs.Simulating.{stepSim}
+use Rattle.machine.proofs.Steps.{one-scan}
 use Rattle.machine.proofs.Rules.{RuleIs, rule-is}
 
 -- of two tests that are not both failed
 neither : (a b : Bool) → a || b ≡ false → (a ≡ false) × (b ≡ false)
 neither true b e = absurd (true≢false e)
 neither false b e = (refl, e)
+
+-- as many as are left, or one of them
+pub at-once-few : (silent : Bool) (left : ℕ) → 0 < left → (atOnce silent left ≤ left) × (0 < atOnce silent left)
+at-once-few true left h = (omega arith, h)
+at-once-few false left h = (h, omega arith)
 
 -- One scan more ------------------------------------------------------------------------------------------------------
 
@@ -233,12 +239,38 @@ module _ (T : Table) (text : Bytes) (r₀ : Run) (m₀ : Lent) (due₀ : ℕ) (n
   module _ {r : Run} {m : Lent} {ns : Numbers} {until : ℕ} (t : Notable r m ns until) where
     pub noted-again : r .counts .scans < until → (a : After) → a ≡ step r T text m → a .answer ≡ GoesOn → a .run .counts .scans ≡ r .counts .scans + 1
         → {k : ℕ} → k ≡ rule r T (m .cells) → {ns′ : Numbers} → ns′ ≡ note r (a .run) k ns → Notable (a .run) (a .lent) ns′ until
-    noted-again left a e on once known is start s x long counted =
+    noted-again left₁ a e on once known is start s x long counted =
         subst (λ (y : Numbers). Tracing T text start (length (m₀ .cells)) due₀ s (r₀ .counts .written) ns₀ (a .run) (a .lent) y until)
-        (sym (is ∙ ap (λ (j : ℕ). note r (a .run) j ns) known)) (traced T text start (length (m₀ .cells)) (t start s x long counted) left a e on once)
+        (sym (is ∙ ap (λ (j : ℕ). note r (a .run) j ns) known)) (traced T text start (length (m₀ .cells)) (t start s x long counted) left₁ a e on once)
 
     pub noted-ended : r .counts .scans < until → (a : After) → a ≡ step r T text m → (a .answer ≡ GoesOn → ⊥) → Noted T text due₀ r₀ m₀ ns₀ ns
     noted-ended left a e out = all-noted (λ start s x long counted. traced-ended T text start (length (m₀ .cells)) (t start s x long counted) left a e out)
 
     pub noted-done : until ≤ r .counts .scans → Noted T text due₀ r₀ m₀ ns₀ ns
     noted-done over = all-noted (λ start s x long counted. traced-all T text start (length (m₀ .cells)) (t start s x long counted) over)
+
+    -- whether the scan was noted or several were made at once: that nothing is noted is told by the lengths
+    module _ (silent : Bool) (told : silent ≡ tooShort ns₀ (length (m₀ .output))) (left : ℕ) where
+      pub noted-on : r .counts .scans < until → (a : After) → a ≡ steps (atOnce silent left) T text (goes r m) → a .answer ≡ GoesOn
+          → a .run .counts .scans ≡ r .counts .scans + atOnce silent left → {k : ℕ} → k ≡ rule r T (m .cells) → {ns′ : Numbers} → ns′ ≡ noteUnless silent r (a .run) k ns
+          → Notable (a .run) (a .lent) ns′ until
+      noted-on due a e on once {k} known {ns′} is = go silent told e once is
+        where
+          go : (b : Bool) → b ≡ tooShort ns₀ (length (m₀ .output)) → a ≡ steps (atOnce b left) T text (goes r m) → a .run .counts .scans ≡ r .counts .scans + atOnce b left
+              → ns′ ≡ noteUnless b r (a .run) k ns → Notable (a .run) (a .lent) ns′ until
+          go true t e₁ o i = λ start s x long counted. absurd (true≢false (t ∙ long))
+          go false t e₁ o i = noted-again due a (one-scan T text r m e₁) on o known i
+
+      pub noted-over : r .counts .scans < until → (a : After) → a ≡ steps (atOnce silent left) T text (goes r m) → (a .answer ≡ GoesOn → ⊥) → Noted T text due₀ r₀ m₀ ns₀ ns
+      noted-over due a e out = go silent told e
+        where
+          go : (b : Bool) → b ≡ tooShort ns₀ (length (m₀ .output)) → a ≡ steps (atOnce b left) T text (goes r m) → Noted T text due₀ r₀ m₀ ns₀ ns
+          go true t e₁ = λ start s x long counted. absurd (true≢false (t ∙ long))
+          go false t e₁ = noted-ended due a (one-scan T text r m e₁) out
+
+      -- what is too short stays as it is
+      pub kept-on : (tooShort ns₀ (length (m₀ .output)) ≡ true → ns ≡ ns₀) → (r′ : Run) (k : ℕ) {ns′ : Numbers} → ns′ ≡ noteUnless silent r r′ k ns
+          → tooShort ns₀ (length (m₀ .output)) ≡ true → ns′ ≡ ns₀
+      kept-on kept r′ k is short =
+          let quiet : silent ≡ true = told ∙ short in
+          is ∙ ap (λ (b : Bool). noteUnless b r r′ k ns) quiet ∙ kept short

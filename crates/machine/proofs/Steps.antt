@@ -1,7 +1,7 @@
 -- Scans one after another in the cells are as many scans of the language.
-use Prim.Native.Nat.{ℕ, zero, suc}
+use Prim.Native.Nat.{ℕ, zero, suc, _+_}
 use native.Mathlib.Omega.{arith}
-use mathlib.Core.Path.{_≡_, refl, sym, ap, subst}
+use mathlib.Core.Path.{_≡_, refl, sym, ap, subst, _∙_}
 use mathlib.Core.Bool.{cond}
 use mathlib.Core.List.{List}
 use lib.ListN.{length}
@@ -34,6 +34,27 @@ steps-ended (suc k) kinds text a out = go (a .answer) out
     go (Ended c) over = refl
     go Damaged over = refl
     go Refused over = refl
+
+-- so many and then more are as many together
+pub steps-add : (j k : ℕ) (kinds text : List ℕ) (a : After) → steps (j + k) kinds text a ≡ steps k kinds text (steps j kinds text a)
+unfolding steps
+steps-add zero k kinds text a = let none : 0 + k ≡ k = omega arith in ap (λ (i : ℕ). steps i kinds text a) none
+steps-add (suc j) k kinds text a =
+    let more : suc j + k ≡ suc (j + k) = omega arith in
+    ap (λ (i : ℕ). steps i kinds text a) more ∙ go (a .answer) refl (steps-add j k kinds text (step (a .run) kinds text (a .lent)))
+  where
+    b : After
+    b = step (a .run) kinds text (a .lent)
+
+    over : (t : Answer) → (t ≡ GoesOn → ⊥) → a .answer ≡ t → a ≡ steps k kinds text a
+    over t out e = sym (steps-ended k kinds text a (λ q. out (sym e ∙ q)))
+
+    go : (t : Answer) → a .answer ≡ t → steps (j + k) kinds text b ≡ steps k kinds text (steps j kinds text b)
+        → cond (goesOn t) (steps (j + k) kinds text b) a ≡ steps k kinds text (cond (goesOn t) (steps j kinds text b) a)
+    go GoesOn e h = h
+    go (Ended c) e h = over (Ended c) (λ q. let z : _≡_ {A = ℕ} 0 1 = cc in omega arith) e
+    go Damaged e h = over Damaged (λ q. let z : _≡_ {A = ℕ} 0 1 = cc in omega arith) e
+    go Refused e h = over Refused (λ q. let z : _≡_ {A = ℕ} 0 1 = cc in omega arith) e
 
 -- one of them is that scan
 pub one-scan : (kinds text : List ℕ) (r : Run) (m : Lent) {a : After} → a ≡ steps 1 kinds text (goes r m) → a ≡ step r kinds text m

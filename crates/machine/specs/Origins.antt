@@ -1,4 +1,4 @@
--- Where each byte of the output came from: what `go_on_noting` promises beside `Moves`, and what its functions do.
+-- Where each byte of the output came from: what `go_on` promises beside `Moves`, and what its functions do.
 use Prim.Native.Nat.{ℕ, _+_, _-_, _%_, _<_}
 use mathlib.Core.Path.{_≡_}
 use mathlib.Core.Bool.{Bool, true, false, cond}
@@ -29,9 +29,11 @@ Noted T text due r m before after =
     → s .standing .read + length (s .text) < 4294967296
     → after ≡ notedFrom (r .counts .written) (originsFrom (limitsOf (length (m .cells)) (length (m .output))) (language T) due (next s)) before
 
--- a standing whose numbers are out of range is refused, and nothing is touched
+-- a standing whose numbers are out of range is refused, and nothing is touched; nor are runs of numbers that are too short, as
+-- those of a caller who lends none
 pub record Notes (T : Table) (text : Bytes) (allowance : ℕ) (r : Run) (m : Lent) (before after : Numbers) : Type 0 where
   pub refused : isInRange r (length (m .cells)) (length (m .output)) ≡ false → after ≡ before
+  pub kept : tooShort before (length (m .output)) ≡ true → after ≡ before
   pub noted : isInRange r (length (m .cells)) (length (m .output)) ≡ true → Noted T text (portion allowance (r .counts .scans)) r m before after
 
 -- What each function does --------------------------------------------------------------------------------------------
@@ -57,3 +59,11 @@ note r r′ k ns =
     let from = r .counts .written in
     let count = r′ .counts .written - from in
     numbers (filled from count (cell (r′ .counts .read)) (ns .origins)) (filled from count k (ns .rules))
+
+-- where any is noted at all
+abbrev pub noteUnless : Bool → Run → Run → ℕ → Numbers → Numbers
+noteUnless silent r r′ k ns = cond silent ns (note r r′ k ns)
+
+-- all scans that are left, or one that is to be noted
+abbrev pub atOnce : Bool → ℕ → ℕ
+atOnce silent left = cond silent left 1

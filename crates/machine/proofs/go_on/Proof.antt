@@ -1,4 +1,4 @@
--- What is in range moves on by its portion, and what is out of range is refused.
+-- What is in range moves on by its portion and notes what it writes, and what is out of range is refused.
 use mathlib.Core.Path.{refl, sym, _∙_}
 use mathlib.Core.Bool.{true≢false}
 use borrow.Author.Needs.{needs}
@@ -12,10 +12,9 @@ is-in-range-requires c κs = search needs
 portion-requires : tie.Need-portion-requires
 portion-requires c κs = search needs
 
-advance-requires : tie.Need-advance-requires
-advance-requires c κs =
-    let b = c .before .before .before in
-    (in-range _ _ _ (sym (b .before .is-in-range .ensures) ∙ b .if1 .taken), c .before .before .portion .ensures .1)
+advance-noting-requires : tie.Need-advance-noting-requires
+advance-noting-requires c κs =
+    (in-range _ _ _ (sym (c .before .before .before .before .before .before .is-in-range .ensures) ∙ c .before .before .before .before .before .if1 .taken), c .before .before .before .before .portion .ensures .1)
 
 same-length : tie.Need-same-length
 same-length c = search needs
@@ -23,17 +22,27 @@ same-length c = search needs
 same-length-2 : tie.Need-same-length-2
 same-length-2 c = search needs
 
+same-length-3 : tie.Need-same-length-3
+same-length-3 c = search needs
+
+same-length-4 : tie.Need-same-length-4
+same-length-4 c = search needs
+
 returns : tie.Need-returns
 returns c =
-    let b = c .before .before .before .before in
-    let b₂ = b .before .before .before .before in
-    let yes = sym (b₂ .before .is-in-range .ensures) ∙ b₂ .if1 .taken in
-    record { refused = λ e. absurd (true≢false (sym yes ∙ e)); advanced = λ e. rw (b .before .before .before .portion .ensures .0) at (b .advance .ensures .0) }
+    let yes = sym (c .before .before .before .before .before .before .before .before .before .before .before .before .before .before .before .is-in-range .ensures) ∙ c .before .before .before .before .before .before .before .before .before .before .before .before .before .before .if1 .taken in
+    let p = c .before .before .before .before .before .before .before .before .before .before .before .before .before .portion .ensures .0 in
+    let a = c .before .before .before .before .before .before .before .before .advance-noting .ensures in (
+      record { refused = λ e. absurd (true≢false (sym yes ∙ e)); advanced = λ e. rw p at (a .0) },
+      record { refused = λ e. absurd (true≢false (sym yes ∙ e)); kept = a .2; noted = λ e. rw p at (a .1) },
+    )
 
 returns-2 : tie.Need-returns-2
 returns-2 c =
-    let no = sym (c .before .is-in-range .ensures) ∙ c .if1 .left in
-    record { refused = λ e. (refl, refl); advanced = λ e. absurd (true≢false (sym e ∙ no)) }
+    let no = sym (c .before .is-in-range .ensures) ∙ c .if1 .left in (
+      record { refused = λ e. (refl, refl); advanced = λ e. absurd (true≢false (sym e ∙ no)) },
+      record { refused = λ e. refl; kept = λ e. refl; noted = λ e. absurd (true≢false (sym e ∙ no)) },
+    )
 
 pub go-on-spec : {M : Type 1} → statement M
 go-on-spec =
@@ -41,8 +50,10 @@ go-on-spec =
     (tie.spec
     is-in-range-requires
     portion-requires
-    advance-requires
+    advance-noting-requires
     same-length
     same-length-2
+    same-length-3
+    same-length-4
     returns
     returns-2)

@@ -1,7 +1,7 @@
 -- Each test that fails leaves the next one to decide.
 use borrow.Author.Tests.{lt-ltb, le-ltb}
-use Rattle.expander.proofs.too_short.Statement.{statement}
-use Rattle.expander.proofs.too_short.Tie as tie
+use Rattle.language.proofs.rules.too_short.Statement.{statement}
+use Rattle.language.proofs.rules.too_short.Tie as tie
 
 returns : tie.Need-returns
 returns c = rw (lt-ltb _ _ (c .if1 .taken))
