@@ -1,5 +1,7 @@
 -- What a caller sees of a run.
 use Prim.Native.Nat.{ℕ}
+use mathlib.Core.Bool.{false}
+use lib.ListN.{length}
 use mathlib.Core.Path.{_≡_}
 use Rattle.language.specs.Outcomes
 use Rattle.language.specs.BuiltIns.{builtIns}
@@ -7,6 +9,7 @@ use Rattle.language.specs.Ends.{End, Reported, reported}
 use Rattle.language.specs.Scanning.{endWith}
 use Rattle.language.specs.Expansion.{Lent, Given, Returned, overwritten, ending}
 use Rattle.language.specs.Demand.{Demand3}
+use Rattle.language.specs.Origins.{origins, Numbers, tooShort, noted}
 use Rattle.machine.specs.declared.run.Answer.{Answer}
 use Rattle.machine.specs.declared.run.Answer.the-variants.{GoesOn, Ended, Damaged, Refused}
 use Rattle.machine.specs.declared.run.Stepped.{Stepped}
@@ -51,3 +54,7 @@ pub record Ran (g : Given) (st : Stepped) (m : Lent) : Type 0 where
   pub reports : numbers (reportOf st) ≡ reported (cameTo st m)
   -- "output so far": the later bytes are as they were
   pub left : m .output ≡ overwritten (cameTo st m .output) (g .lent .output)
+
+-- What a run noted: its origins, where both runs of numbers are as long as the output.
+abbrev pub NotedIn : Given → Numbers → Numbers → Type 0
+NotedIn g before after = tooShort before (length (g .lent .output)) ≡ false → after ≡ noted (origins g) before

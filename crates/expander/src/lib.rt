@@ -2,6 +2,7 @@
 use language::Sizes;
 use language::outcomes;
 use language::refusals::Verdict;
+use language::rules;
 use machine::run::Answer;
 use machine::run::Run;
 use machine::run::Stepped;
@@ -9,13 +10,13 @@ ghost use mathlib.Core.Path.{_≡_};
 ghost use mathlib.Core.Option.{none};
 ghost use Prim.Native.Nat.{_≤_};
 ghost use lib.ListN.{length};
-ghost use Rattle.language.specs.Signs.{standard, cellsLimit};
+ghost use Rattle.language.specs.Signs.{standard, textLimit, cellsLimit};
 ghost use Rattle.language.specs.Refusals.{refusedBy};
 ghost use Rattle.language.specs.Expansion.{lent, given, refusals, expanded};
 ghost use Rattle.language.specs.Demand.{Expanded};
-ghost use Rattle.language.specs.Origins.{numbers, tooShort, givenWith, returnedWith, refusalsWith, expandedOrigins, ExpandedOrigins};
+ghost use Rattle.language.specs.Origins.{numbers, givenWith, returnedWith, ExpandedOrigins};
 ghost use Rattle.keys.specs.Scripts.{asked, Numbered};
-ghost use Rattle.expander.specs.Reports.{outcomeOf, reportOf, refusedWith, returned, Ran};
+ghost use Rattle.expander.specs.Reports.{outcomeOf, reportOf, refusedWith, returned, Ran, NotedIn};
 
 // What a run reports, in document 01's order: for Rattle and for C.
 #[repr(C)]
@@ -38,7 +39,7 @@ pub fn expand(text: &[u8], cells: &mut [u32], output: &mut [u8], allowance: u64)
         return Report::refused(outcomes::TOO_LARGE);
     }
     let kinds = language::standard_kinds();
-    expand_accepted(&kinds, text, cells, output, allowance)
+    expand_unnoted(&kinds, text, cells, output, allowance)
 }
 
 // The same with the caller's own signs: a table of 256 kinds in place of the standard one.
@@ -57,7 +58,7 @@ pub fn expand_signs(
         return Report::refused(outcome);
     }
     let kinds = kinds_of(signs);
-    expand_accepted(&kinds, text, cells, output, allowance)
+    expand_unnoted(&kinds, text, cells, output, allowance)
 }
 
 // The same, and for each byte of the output the bytes of the text read by then and the rule that wrote it.
@@ -77,11 +78,11 @@ pub fn expand_origins(
     if let Verdict::Refused(outcome) = verdict {
         return Report::refused(outcome);
     }
-    if too_short(origins, rules, output.len()) {
+    if rules::too_short(origins, rules, output) {
         return Report::refused(outcomes::NUMBERS_TOO_SHORT);
     }
     let kinds = kinds_of(signs);
-    expand_accepted_origins(&kinds, text, cells, output, origins, rules, allowance)
+    expand_accepted(&kinds, text, cells, output, origins, rules, allowance)
 }
 
 // For C callers: each slice is a pointer and a length, and the report is returned by value.
@@ -147,8 +148,8 @@ fn sizes_of(text: &[u8], cells: &[u32], output: &[u8]) -> Sizes
     }
 }
 
-// A call that is not refused: the run to its end, the cells cleared, the report.
-fn expand_accepted(
+// A call that is not refused and lends no numbers.
+fn expand_unnoted(
     kinds: &[u8; 256],
     text: &[u8],
     cells: &mut [u32],
@@ -158,13 +159,21 @@ fn expand_accepted(
     requires { ⌜ refusedBy (refusals (given (now kinds) (now text) (lent (now cells) (now output)) allowance)) ≡ none ⌝ }
     ensures { λ r. ⌜ returned r (lent (now (cells .exit)) (now (output .exit))) ≡ expanded (given (now (kinds .entry)) (now (text .entry)) (lent (now (cells .entry)) (now (output .entry))) allowance) ⌝ }
 {
-    let st = run_to_end(kinds, text, cells, output, allowance);
-    memory::clear(cells);
-    Report::of(st)
+    let mut origins = [0u32; 0];
+    let mut rules = [0u32; 0];
+    expand_accepted(
+        kinds,
+        text,
+        cells,
+        output,
+        &mut origins,
+        &mut rules,
+        allowance,
+    )
 }
 
-// The same with the origins beside it: the same scans, each noted.
-fn expand_accepted_origins(
+// A call that is not refused: the run to its end, the cells cleared, the report.
+fn expand_accepted(
     kinds: &[u8; 256],
     text: &[u8],
     cells: &mut [u32],
@@ -173,32 +182,12 @@ fn expand_accepted_origins(
     rules: &mut [u32],
     allowance: u64,
 ) -> Report
-    requires { ⌜ refusedBy (refusalsWith (givenWith (given (now kinds) (now text) (lent (now cells) (now output)) allowance) (numbers (now origins) (now rules)))) ≡ none ⌝ }
-    ensures { λ r. ⌜ returnedWith (returned r (lent (now (cells .exit)) (now (output .exit)))) (numbers (now (origins .exit)) (now (rules .exit))) ≡ expandedOrigins (givenWith (given (now (kinds .entry)) (now (text .entry)) (lent (now (cells .entry)) (now (output .entry))) allowance) (numbers (now (origins .entry)) (now (rules .entry)))) ⌝ }
+    requires { ⌜ refusedBy (refusals (given (now kinds) (now text) (lent (now cells) (now output)) allowance)) ≡ none ⌝ }
+    ensures { λ r. ⌜ (returned r (lent (now (cells .exit)) (now (output .exit))) ≡ expanded (given (now (kinds .entry)) (now (text .entry)) (lent (now (cells .entry)) (now (output .entry))) allowance)) × NotedIn (given (now (kinds .entry)) (now (text .entry)) (lent (now (cells .entry)) (now (output .entry))) allowance) (numbers (now (origins .entry)) (now (rules .entry))) (numbers (now (origins .exit)) (now (rules .exit))) ⌝ }
 {
-    let run = Run::new(cells.len());
-    let st = machine::origins::go_on_noting(
-        run,
-        kinds,
-        text,
-        cells,
-        output,
-        origins,
-        rules,
-        allowance,
-    );
+    let st = run_to_end(kinds, text, cells, output, origins, rules, allowance);
     memory::clear(cells);
     Report::of(st)
-}
-
-// Whether either run of numbers is shorter than the output.
-fn too_short(origins: &[u32], rules: &[u32], output: usize) -> bool
-    ensures { λ r. ⌜ r ≡ tooShort (numbers (now (origins .entry)) (now (rules .entry))) output ⌝ }
-{
-    if origins.len() < output {
-        return true;
-    }
-    rules.len() < output
 }
 
 // The signs as an array, in which every byte has its place.
@@ -218,13 +207,15 @@ fn run_to_end(
     text: &[u8],
     cells: &mut [u32],
     output: &mut [u8],
+    origins: &mut [u32],
+    rules: &mut [u32],
     allowance: u64,
 ) -> Stepped
-    requires { ⌜ length (now cells) ≤ cellsLimit ⌝ }
-    ensures { λ r. ⌜ Ran (given (now (kinds .entry)) (now (text .entry)) (lent (now (cells .entry)) (now (output .entry))) allowance) r (lent (now (cells .exit)) (now (output .exit))) ⌝ }
+    requires { ⌜ (length (now text) ≤ textLimit) × (length (now cells) ≤ cellsLimit) ⌝ }
+    ensures { λ r. ⌜ Ran (given (now (kinds .entry)) (now (text .entry)) (lent (now (cells .entry)) (now (output .entry))) allowance) r (lent (now (cells .exit)) (now (output .exit))) × NotedIn (given (now (kinds .entry)) (now (text .entry)) (lent (now (cells .entry)) (now (output .entry))) allowance) (numbers (now (origins .entry)) (now (rules .entry))) (numbers (now (origins .exit)) (now (rules .exit))) ⌝ }
 {
     let run = Run::new(cells.len());
-    machine::go_on(run, kinds, text, cells, output, allowance)
+    machine::go_on(run, kinds, text, cells, output, origins, rules, allowance)
 }
 
 impl Report {

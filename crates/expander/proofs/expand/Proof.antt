@@ -34,8 +34,8 @@ returns c =
 standard-kinds-requires : tie.Need-standard-kinds-requires
 standard-kinds-requires c κs = search needs
 
-expand-accepted-requires : tie.Need-expand-accepted-requires
-expand-accepted-requires c κs =
+expand-unnoted-requires : tie.Need-expand-unnoted-requires
+expand-unnoted-requires c κs =
     let a = c .before .before .before .before .before .before .before .before .before .before .before .before .args in
     rw (c .before .before .before .standard-kinds .ensures)
     (standard-lent (length (now (a .text))) (length (now (a .cells))) (length (now (a .output))) (sym (rw (c .before .before .before .before .before .before .sizes-of .ensures) at (c .before .before .before .before .before .too-large .ensures)) ∙ c .before .before .before .before .if1 .left))
@@ -50,7 +50,7 @@ returns-2 : tie.Need-returns-2
 returns-2 c =
     let a = c .before .before .before .before .before .before .before .before .before .before .before .before .before .before .before .before .before .args in
     let g = given standard (now (a .text)) (lent (now (a .cells)) (now (a .output))) (a .allowance) in
-    delivers g refl _ (rw (c .before .before .before .before .before .before .before .before .standard-kinds .ensures) at (c .before .before .before .before .expand-accepted .ensures))
+    delivers g refl _ (rw (c .before .before .before .before .before .before .before .before .standard-kinds .ensures) at (c .before .before .before .before .expand-unnoted .ensures))
 
 pub expand-spec : {M : Type 1} → statement M
 expand-spec =
@@ -63,7 +63,7 @@ expand-spec =
     same-length-2
     returns
     standard-kinds-requires
-    expand-accepted-requires
+    expand-unnoted-requires
     same-length-3
     same-length-4
     returns-2)

@@ -4,9 +4,9 @@ use denote.Ref.{now}
 use Rattle.language.specs.Refusals.{refusalIn}
 use Rattle.language.specs.Expansion.{lent, given}
 use Rattle.language.specs.Origins.{numbers, givenWith}
-use Rattle.language.proofs.Origins.{refused-as, refused-short, accepted-as}
+use Rattle.language.proofs.Origins.{refused-as, refused-short}
 use Rattle.expander.proofs.Running.{signsFit}
-use Rattle.expander.proofs.Noting.{delivers-origins}
+use Rattle.expander.proofs.Noting.{expands-origins, delivers-origins}
 use borrow.Author.Needs.{needs}
 use Rattle.expander.proofs.expand_origins.Statement.{statement}
 use Rattle.expander.proofs.expand_origins.Tie as tie
@@ -58,21 +58,18 @@ same-length-6 c = search needs
 
 returns-2 : tie.Need-returns-2
 returns-2 c =
-    let a = c .before .before .before .before .before .before .before .before .before .before .before .before .before .before .before .before .before .args in
+    let a = c .before .before .before .before .before .before .before .before .before .before .before .before .before .before .before .before .before .before .args in
     let g = givenWith (given (now (a .signs)) (now (a .text)) (lent (now (a .cells)) (now (a .output))) (a .allowance)) (numbers (now (a .origins)) (now (a .rules))) in
-    rw (c .refused2 .ensures) (delivers-origins g refl (sym (refused-short g (sym (rw (c .before .before .before .before .before .before .before .before .sizes-of .ensures) at (c .before .before .before .before .before .before .before .on-lent .ensures)) ∙ ap refusalIn (c .before .before .before .before .before .enum-told .given .1)) (sym (c .before .before .too-short .ensures) ∙ c .before .if1 .taken))))
+    rw (c .refused2 .ensures) (delivers-origins g refl (sym (refused-short g (sym (rw (c .before .before .before .before .before .before .before .before .before .sizes-of .ensures) at (c .before .before .before .before .before .before .before .before .on-lent .ensures)) ∙ ap refusalIn (c .before .before .before .before .before .before .enum-told .given .1)) (sym (c .before .before .too-short .ensures) ∙ c .before .if1 .taken))))
 
 kinds-of-requires : tie.Need-kinds-of-requires
 kinds-of-requires c κs =
-    let a = c .before .before .before .before .before .before .before .before .before .before .before .before .before .before .before .before .args in
+    let a = c .before .before .before .before .before .before .before .before .before .before .before .before .before .before .before .before .before .args in
     let g = givenWith (given (now (a .signs)) (now (a .text)) (lent (now (a .cells)) (now (a .output))) (a .allowance)) (numbers (now (a .origins)) (now (a .rules))) in
-    signsFit (g .given) (sym (rw (c .before .before .before .before .before .before .before .sizes-of .ensures) at (c .before .before .before .before .before .before .on-lent .ensures)) ∙ ap refusalIn (c .before .before .before .before .enum-told .given .1))
+    signsFit (g .given) (sym (rw (c .before .before .before .before .before .before .before .before .sizes-of .ensures) at (c .before .before .before .before .before .before .before .on-lent .ensures)) ∙ ap refusalIn (c .before .before .before .before .before .enum-told .given .1))
 
-expand-accepted-origins-requires : tie.Need-expand-accepted-origins-requires
-expand-accepted-origins-requires c κs =
-    let a = c .before .before .before .before .before .before .before .before .before .before .before .before .before .before .before .before .before .before .before .before .before .before .args in
-    let g = givenWith (given (now (a .signs)) (now (a .text)) (lent (now (a .cells)) (now (a .output))) (a .allowance)) (numbers (now (a .origins)) (now (a .rules))) in
-    rw (c .before .before .before .before .before .kinds-of .ensures) (accepted-as g .1 (sym (rw (c .before .before .before .before .before .before .before .before .before .before .before .before .before .sizes-of .ensures) at (c .before .before .before .before .before .before .before .before .before .before .before .before .on-lent .ensures)) ∙ ap refusalIn (c .before .before .before .before .before .before .before .before .before .before .enum-told .given .1), sym (c .before .before .before .before .before .before .before .too-short .ensures) ∙ c .before .before .before .before .before .before .if1 .left))
+expand-accepted-requires : tie.Need-expand-accepted-requires
+expand-accepted-requires c κs = rw (c .before .before .before .before .before .kinds-of .ensures) (sym (rw (c .before .before .before .before .before .before .before .before .before .before .before .before .before .before .sizes-of .ensures) at (c .before .before .before .before .before .before .before .before .before .before .before .before .before .on-lent .ensures)) ∙ ap refusalIn (c .before .before .before .before .before .before .before .before .before .before .before .enum-told .given .1))
 
 same-length-7 : tie.Need-same-length-7
 same-length-7 c = search needs
@@ -88,9 +85,11 @@ same-length-10 c = search needs
 
 returns-3 : tie.Need-returns-3
 returns-3 c =
-    let a = c .before .before .before .before .before .before .before .before .before .before .before .before .before .before .before .before .before .before .before .before .before .before .before .before .before .before .before .before .before .before .before .args in
+    let a = c .before .before .before .before .before .before .before .before .before .before .before .before .before .before .before .before .before .before .before .before .before .before .before .before .before .before .before .before .before .before .before .before .args in
     let g = givenWith (given (now (a .signs)) (now (a .text)) (lent (now (a .cells)) (now (a .output))) (a .allowance)) (numbers (now (a .origins)) (now (a .rules))) in
-    delivers-origins g refl (rw (c .before .before .before .before .before .before .before .before .before .before .before .before .before .before .kinds-of .ensures) at (c .before .before .before .before .before .before .before .before .expand-accepted-origins .ensures))
+    let made = rw (c .before .before .before .before .before .before .before .before .before .before .before .before .before .before .kinds-of .ensures) at (c .before .before .before .before .before .before .before .before .expand-accepted .ensures) in
+    delivers-origins g refl
+    (expands-origins g (sym (rw (c .before .before .before .before .before .before .before .before .before .before .before .before .before .before .before .before .before .before .before .before .before .before .before .sizes-of .ensures) at (c .before .before .before .before .before .before .before .before .before .before .before .before .before .before .before .before .before .before .before .before .before .before .on-lent .ensures)) ∙ ap refusalIn (c .before .before .before .before .before .before .before .before .before .before .before .before .before .before .before .before .before .before .before .before .enum-told .given .1)) (sym (c .before .before .before .before .before .before .before .before .before .before .before .before .before .before .before .before .too-short .ensures) ∙ c .before .before .before .before .before .before .before .before .before .before .before .before .before .before .before .if1 .left) (made .0) (made .1))
 
 pub expand-origins-spec : {M : Type 1} → statement M
 expand-origins-spec =
@@ -112,7 +111,7 @@ expand-origins-spec =
     same-length-6
     returns-2
     kinds-of-requires
-    expand-accepted-origins-requires
+    expand-accepted-requires
     same-length-7
     same-length-8
     same-length-9

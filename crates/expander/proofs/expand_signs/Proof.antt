@@ -41,8 +41,8 @@ kinds-of-requires c κs =
     let g = given (now (a .signs)) (now (a .text)) (lent (now (a .cells)) (now (a .output))) (a .allowance) in
     signsFit g (sym (rw (c .before .before .before .sizes-of .ensures) at (c .before .before .on-lent .ensures)) ∙ ap refusalIn (c .enum-told .given .1))
 
-expand-accepted-requires : tie.Need-expand-accepted-requires
-expand-accepted-requires c κs =
+expand-unnoted-requires : tie.Need-expand-unnoted-requires
+expand-unnoted-requires c κs =
     rw (c .before .before .before .kinds-of .ensures) (sym (rw (c .before .before .before .before .before .before .before .sizes-of .ensures) at (c .before .before .before .before .before .before .on-lent .ensures)) ∙ ap refusalIn (c .before .before .before .before .enum-told .given .1))
 
 same-length-3 : tie.Need-same-length-3
@@ -55,7 +55,7 @@ returns-2 : tie.Need-returns-2
 returns-2 c =
     let a = c .before .before .before .before .before .before .before .before .before .before .before .before .before .before .before .before .before .before .before .args in
     let g = given (now (a .signs)) (now (a .text)) (lent (now (a .cells)) (now (a .output))) (a .allowance) in
-    delivers g refl _ (rw (c .before .before .before .before .before .before .before .before .kinds-of .ensures) at (c .before .before .before .before .expand-accepted .ensures))
+    delivers g refl _ (rw (c .before .before .before .before .before .before .before .before .kinds-of .ensures) at (c .before .before .before .before .expand-unnoted .ensures))
 
 pub expand-signs-spec : {M : Type 1} → statement M
 expand-signs-spec =
@@ -70,7 +70,7 @@ expand-signs-spec =
     returns
     enum-told
     kinds-of-requires
-    expand-accepted-requires
+    expand-unnoted-requires
     same-length-3
     same-length-4
     returns-2)

@@ -1,8 +1,9 @@
--- What the machine came to from its fresh standing is the end of the run.
+-- What the machine came to from its fresh standing is the end of the run, and what it noted are its origins.
 use native.Mathlib.Omega.{arith}
-use borrow.Author.Needs.{needs}
 use Rattle.language.proofs.Octets.{octets-of}
 use Rattle.expander.proofs.Running.{ran}
+use Rattle.expander.proofs.Noting.{noted-all}
+use borrow.Author.Needs.{needs}
 use Rattle.expander.proofs.run_to_end.Statement.{statement}
 use Rattle.expander.proofs.run_to_end.Tie as tie
 
@@ -18,14 +19,29 @@ same-length c = search needs
 same-length-2 : tie.Need-same-length-2
 same-length-2 c = search needs
 
+same-length-3 : tie.Need-same-length-3
+same-length-3 c = search needs
+
+same-length-4 : tie.Need-same-length-4
+same-length-4 c = search needs
+
 returns : tie.Need-returns
 returns c =
-    let b = c .before .before .before .before in
-    let b₂ = b .before .before .before in
-    let s = b₂ .before .before .before .before in
-    ran _ _ _ _ _ _ (rw (b₂ .new .ensures) at (b .go-on .ensures)) (s .pre) (octets-of (s .args .text .now) (λ i. b₂ .before .before .before .shared-slice-known .given i .fits))
-    (omega (arith, s .fits .allowance .fits))
+    let s = c .before .before .before .before .before .before .before .before .before .before .before .before .before .before .before .before .before .before .before in
+    let moved = rw (c .before .before .before .before .before .before .before .before .before .before .before .before .before .new .ensures) at (c .before .before .before .before .before .before .before .before .go-on .ensures) in
+    let octets = octets-of (s .args .text .now) (λ i. c .before .before .before .before .before .before .before .before .before .before .before .before .before .before .before .before .before .before .shared-slice-known .given i .fits) in (
+      ran _ _ _ _ _ _ (moved .0) (s .pre .1) octets (omega (arith, s .fits .allowance .fits)),
+      noted-all _ _ _ _ _ _ (moved .1) (s .pre .1) (s .pre .0) octets (omega (arith, s .fits .allowance .fits)),
+    )
 
 pub run-to-end-spec : {M : Type 1} → statement M
 run-to-end-spec =
-    tie.close (tie.spec new-requires go-on-requires same-length same-length-2 returns)
+    tie.close
+    (tie.spec
+    new-requires
+    go-on-requires
+    same-length
+    same-length-2
+    same-length-3
+    same-length-4
+    returns)
