@@ -74,9 +74,9 @@ pub fn expand_origins(
     ensures { λ r. ⌜ ExpandedOrigins (givenWith (given (now (signs .entry)) (now (text .entry)) (lent (now (cells .entry)) (now (output .entry))) allowance) (numbers (now (origins .entry)) (now (rules .entry)))) (returnedWith (returned r (lent (now (cells .exit)) (now (output .exit)))) (numbers (now (origins .exit)) (now (rules .exit)))) ⌝ }
 {
     let sizes = sizes_of(text, cells, output);
-    let verdict = Verdict::on_lent(sizes, signs);
-    if let Verdict::Refused(outcome) = verdict {
-        return Report::refused(outcome);
+    let earlier = Verdict::on_lent(sizes, signs);
+    if let Verdict::Refused(refusal) = earlier {
+        return Report::refused(refusal);
     }
     if rules::too_short(origins, rules, output) {
         return Report::refused(outcomes::NUMBERS_TOO_SHORT);

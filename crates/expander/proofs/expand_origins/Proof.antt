@@ -17,8 +17,8 @@ sizes-of-requires c κs = search needs
 on-lent-requires : tie.Need-on-lent-requires
 on-lent-requires c κs = search needs
 
-enum-known-verdict : tie.Need-enum-known-verdict
-enum-known-verdict c = search needs
+enum-known-earlier : tie.Need-enum-known-earlier
+enum-known-earlier c = search needs
 
 refused-requires : tie.Need-refused-requires
 refused-requires c κs = search needs
@@ -33,7 +33,7 @@ returns : tie.Need-returns
 returns c =
     let a = c .before .before .before .before .before .before .before .before .before .before .before .before .before .before .args in
     let g = givenWith (given (now (a .signs)) (now (a .text)) (lent (now (a .cells)) (now (a .output))) (a .allowance)) (numbers (now (a .origins)) (now (a .rules))) in
-    rw (c .refused .ensures) (delivers-origins g refl (sym (refused-as g _ (sym (rw (c .before .before .before .before .before .sizes-of .ensures) at (c .before .before .before .before .on-lent .ensures)) ∙ ap refusalIn (c .before .before .verdict .given .1)))))
+    rw (c .refused .ensures) (delivers-origins g refl (sym (refused-as g _ (sym (rw (c .before .before .before .before .before .sizes-of .ensures) at (c .before .before .before .before .on-lent .ensures)) ∙ ap refusalIn (c .before .before .earlier .given .1)))))
 
 enum-told : tie.Need-enum-told
 enum-told c = search needs
@@ -97,7 +97,7 @@ expand-origins-spec =
     (tie.spec
     sizes-of-requires
     on-lent-requires
-    enum-known-verdict
+    enum-known-earlier
     refused-requires
     same-length
     same-length-2
