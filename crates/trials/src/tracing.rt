@@ -30,21 +30,18 @@ pub(crate) fn is_right(
     origins: &[u8],
     rules: &[u8],
 ) -> bool {
-    let mut cells = [0u32; lending::CELLS_ROOM];
-    let mut bytes = [0u8; lending::OUTPUT_ROOM];
     let mut first = [0u32; NUMBERS_ROOM];
     let mut second = [0u32; NUMBERS_ROOM];
-    let got = run(
+    if !is_run(
         signs,
         text,
         lent,
         numbers,
-        &mut cells,
-        &mut bytes,
+        report,
+        output,
         &mut first,
         &mut second,
-    );
-    if !lending::is_left(got, &cells, &bytes, lent, report, output) {
+    ) {
         return false;
     }
     are_noted(&first, origins, output.len()) && are_noted(&second, rules, output.len())
@@ -58,14 +55,40 @@ pub(crate) fn is_as_ordinary(
     report: Report,
     output: &[u8],
 ) -> bool {
-    let mut cells = [0u32; lending::CELLS_ROOM];
-    let mut bytes = [0u8; lending::OUTPUT_ROOM];
     let mut first = [0u32; NUMBERS_ROOM];
     let mut second = [0u32; NUMBERS_ROOM];
     let numbers = Numbers {
         origins: lent.output,
         rules: lent.output,
     };
+    if !is_run(
+        signs,
+        text,
+        lent,
+        numbers,
+        report,
+        output,
+        &mut first,
+        &mut second,
+    ) {
+        return false;
+    }
+    are_untouched_around(&first, output.len()) && are_untouched_around(&second, output.len())
+}
+
+// Whether report, output and cells are right. The numbers are for who looks at them next.
+fn is_run(
+    signs: &[u8],
+    text: &[u8],
+    lent: Lent,
+    numbers: Numbers,
+    report: Report,
+    output: &[u8],
+    origins: &mut [u32],
+    rules: &mut [u32],
+) -> bool {
+    let mut cells = [0u32; lending::CELLS_ROOM];
+    let mut bytes = [0u8; lending::OUTPUT_ROOM];
     let got = run(
         signs,
         text,
@@ -73,13 +96,10 @@ pub(crate) fn is_as_ordinary(
         numbers,
         &mut cells,
         &mut bytes,
-        &mut first,
-        &mut second,
+        origins,
+        rules,
     );
-    if !lending::is_left(got, &cells, &bytes, lent, report, output) {
-        return false;
-    }
-    are_untouched_around(&first, output.len()) && are_untouched_around(&second, output.len())
+    lending::is_left(got, &cells, &bytes, lent, report, output)
 }
 
 // Fills the arrays with the pattern and runs the text on parts of them.
