@@ -501,7 +501,7 @@ module _ (g : GivenNumbers) where
   -- what is refused as the ordinary call is, is so whatever the numbers are,
   pub refused-as : (k : ℕ) → refusedBy (refusals (g .given)) ≡ some k → expandedOrigins g ≡ returnedWith (untouched k (g .given .lent)) (g .numbers)
   unfolding expandedOrigins
-  refused-as k e = rw (behind-some (refusals (g .given)) (numbersRefusals g) k e)
+  refused-as k e = ap (λ (r : Option ℕ). answeredWith r g) (behind-some (refusals (g .given)) (numbersRefusals g) k e)
 
   -- and 35 comes behind,
   pub refused-short : refusedBy (refusals (g .given)) ≡ none → shortNumbers g ≡ true
