@@ -24,8 +24,9 @@ extern "C" {
 #define GPM_OUTPUT_LIMIT 65536 /* bytes of output */
 #define GPM_WANTED_LIMIT 65534 /* keys wanted of gpm_script: their script has two bytes more */
 
-/* How a run ended. 0 and 1 finish it, 2 to 5 are about what was lent, 10 to 24 and 33 are faults of the text, and 30 to
- * 32 refuse signs; 34 is gpm_script's alone, 35 gpm_expand_origins's. Below the standard signs stand for those in force. */
+/* How a run ended. 0 and 1 finish it, 2 to 5 are about what was lent, 10 to 24, 33 and 36 are faults of the text, and
+ * 30 to 32 refuse signs; 34 is gpm_script's alone, 35 gpm_expand_origins's. Below the standard signs stand for those in
+ * force. */
 enum gpm_outcome {
     GPM_FINISHED = 0,             /* the text ended outside quotes and calls */
     GPM_FINISHED_AT_QUOTE = 1,    /* an unquoted > in the text, no call being collected; the rest is unread */
@@ -42,7 +43,7 @@ enum gpm_outcome {
     GPM_QUOTE_IN_CALL = 16,       /* an unquoted > in the text while a call is collected */
     GPM_TEXT_IN_QUOTES = 17,      /* the text ended inside quotes */
     GPM_TEXT_IN_CALL = 18,        /* the text ended inside a call */
-    GPM_BUILT_IN = 19,            /* VAL or UPDATE on a built-in */
+    GPM_BUILT_IN = 19,            /* VAL, UPDATE or LOCK on a built-in */
     GPM_BODY_BEING_READ = 20,     /* UPDATE of a definition whose body is being read */
     GPM_UPDATE_TOO_LONG = 21,     /* UPDATE longer than the value first defined */
     GPM_NOT_A_NUMBER = 22,        /* an operand is not a number in range */
@@ -53,7 +54,8 @@ enum gpm_outcome {
     GPM_RESERVED_SIGN = 32,       /* a letter, a digit, +, - or * is a sign: the same */
     GPM_EMPTY_NAME = 33,          /* DEF of an empty name */
     GPM_NO_SCRIPT = 34,           /* no script of any length gives the wanted keys: their quotes do not match */
-    GPM_NUMBERS_TOO_SHORT = 35    /* origins or rules shorter than the output lent: all counts 0, nothing touched */
+    GPM_NUMBERS_TOO_SHORT = 35,   /* origins or rules shorter than the output lent: all counts 0, nothing touched */
+    GPM_LOCKED = 36               /* UPDATE of a locked definition */
 };
 
 /* The name of 12 before letters stood for parameters, for programs that have it. */
@@ -108,8 +110,8 @@ typedef struct gpm_report {
 /*
  * Expands a text with the standard signs.
  *
- * With outcome 0, 1, 3, 4, 5, 10 to 24 or 33: the first report.written bytes of the output are the text's expansion
- * so far, the bytes behind them are as they were, and all cells are 0.
+ * With outcome 0, 1, 3, 4, 5, 10 to 24, 33 or 36: the first report.written bytes of the output are the text's
+ * expansion so far, the bytes behind them are as they were, and all cells are 0.
  * With outcome 2: nothing is touched.
  * What the cells and the output hold before does not matter. The text is never written.
  *

@@ -37,7 +37,7 @@ static const char *in_words(uint64_t outcome)
     case GPM_QUOTE_IN_CALL: return "an unquoted > while a call is collected";
     case GPM_TEXT_IN_QUOTES: return "the text ended inside quotes";
     case GPM_TEXT_IN_CALL: return "the text ended inside a call";
-    case GPM_BUILT_IN: return "VAL or UPDATE on a built-in";
+    case GPM_BUILT_IN: return "VAL, UPDATE or LOCK on a built-in";
     case GPM_BODY_BEING_READ: return "UPDATE of a definition whose body is being read";
     case GPM_UPDATE_TOO_LONG: return "UPDATE longer than the value first defined";
     case GPM_NOT_A_NUMBER: return "an operand is not a number in range";
@@ -49,6 +49,7 @@ static const char *in_words(uint64_t outcome)
     case GPM_EMPTY_NAME: return "DEF of an empty name";
     case GPM_NO_SCRIPT: return "no script gives the wanted keys";
     case GPM_NUMBERS_TOO_SHORT: return "origins or rules shorter than the output";
+    case GPM_LOCKED: return "UPDATE of a locked definition";
     }
     return "an outcome that gpm.h does not have";
 }

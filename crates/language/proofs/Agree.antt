@@ -509,9 +509,9 @@ module _ (G : Language) where
       performComes (defines name w) k r h h₁ s b g gets l = goes s 0 r _ gets (goodExchanged F C k h h₁ base (defined name w) g b) l
       performComes (gives bs) k r h h₁ s b g gets l =
           goes s 0 r (given F k h h₁ bs C) (rw (giveAt F k h h₁ bs C r g) at gets) (goodGiven F k h h₁ bs C base g b) l
-      performComes (alters j w) k r h h₁ s b g gets l =
+      performComes (alters j change) k r h h₁ s b g gets l =
           let ds = h₁ .handed .definitions in
-          goes s 0 r _ gets (goodReleased F C k h h₁ base (altered j w ds) g b (price-altered j w ds) (length-altered j w ds)) l
+          goes s 0 r _ gets (goodReleased F C k h h₁ base (altered j change ds) g b (price-altered j change ds) (length-altered j change ds)) l
       performComes (faulty e) k r h h₁ s b g gets l = toFinish gets
 
       -- `$`: the call is collected, applied and performed

@@ -192,6 +192,42 @@ shared =
     ("a wheel in a body", "$DEF,up,<$Rem,$-,~1,1;,8;>;$DEF,down,<$Rem,$+,~1,1;,8;>;$up,0;$down,7;$up,$up,1;;", "707", report 0 81 3 146 81 2) ∷
     ("a wheel kept by UPDATE", "$DEF,at,0;$DEF,up,<$UPDATE,at,$Rem,$-,$at;,1;,8;;>;$up;$at;$up;$at;", "76", report 0 67 2 138 86 2) ∷
     ("Quot and Rem collected", "$DEF,k,<[~1|~2]>;$k,$Quot,-7,2;,$Rem,-7,2;;", "[-4|1]", report 0 43 6 50 35 1) ∷
+    -- Document 02, Nine: locked values
+    ("a locked value", "$DEF,s,100;$LOCK,s;$s;$VAL,s;$DEF,s,200;$UPDATE,s,300;$s;", "100100300", report 0 57 9 66 33 2) ∷
+    ("36", "$DEF,s,100;$LOCK,s;$LOCK,s;$UPDATE,s,1;", "", report 36 39 0 39 23 1) ∷
+    ("36 before 20", "$DEF,s,<$UPDATE,s,;>;$LOCK,s;$s;", "", report 36 32 0 43 36 1) ∷
+    ("36 before 21", "$DEF,s,1;$LOCK,s;$UPDATE,s,22;", "", report 36 30 0 30 22 1) ∷
+    ("19 of LOCK", "$LOCK,DEF;", "", report 19 10 0 10 13 0) ∷
+    ("15 of LOCK", "$LOCK,x;", "", report 15 8 0 8 11 0) ∷
+    ("13 of LOCK", "$LOCK;", "", report 13 6 0 6 9 0) ∷
+    ("the mark stays when the newer one goes", "$DEF,s,1;$LOCK,s;$k,$DEF,s,2;$DEF,k,<$UPDATE,s,3;$s;>;;$UPDATE,s,4;", "3", report 36 67 1 85 54 1) ∷
+    ("locked in a body that is read", "$DEF,s,<$LOCK,s;x>;$s;$UPDATE,s,y;", "x", report 36 34 1 44 31 1) ∷
+    ("a definition of the list of LOCK", "$DEF,s,1;$LOCK,s$DEF,s,2;;$UPDATE,s,3;$s;", "3", report 0 41 1 44 28 1) ∷
+    ("LOCK, surplus parameters", "$DEF,s,1;$LOCK,s,x,y;$UPDATE,s,2;", "", report 36 33 0 33 21 1) ∷
+    ("19 by VAL of LOCK", "$VAL,LOCK;", "", report 19 10 0 10 13 0) ∷
+    ("19 by UPDATE of LOCK", "$UPDATE,LOCK,x;", "", report 19 15 0 15 18 0) ∷
+    ("19 by LOCK of LOCK", "$LOCK,LOCK;", "", report 19 11 0 11 14 0) ∷
+    ("a script defines LOCK", "$DEF,s,1;$DEF,LOCK,<[~1]>;$LOCK,s;$UPDATE,s,2;$s;", "[s]2", report 0 49 4 56 33 2) ∷
+    ("15, the beginning of LOCK", "$DEF,s,1;$LOC,s;", "", report 15 16 0 16 16 1) ∷
+    ("15, LOCK and more", "$DEF,s,1;$LOCKS,s;", "", report 15 18 0 18 18 1) ∷
+    ("13 before 36", "$DEF,s,1;$LOCK,s;$UPDATE,s;", "", report 13 27 0 27 19 1) ∷
+    ("15 by LOCK of an empty name", "$LOCK,;", "", report 15 7 0 7 10 0) ∷
+    ("LOCK gives no text", "$DEF,s,1;$DEF,k,<[~1|~2]>;$k,a$LOCK,s;b,$LOCK,s;;", "[ab|]", report 0 49 5 56 38 2) ∷
+    ("36 of an empty value", "$DEF,s,;$LOCK,s;$UPDATE,s,;", "", report 36 27 0 27 19 1) ∷
+    ("36 of the value that stands", "$DEF,s,1;$LOCK,s;$UPDATE,s,1;", "", report 36 29 0 29 21 1) ∷
+    ("36 of a definition that hides a built-in", "$DEF,VAL,1;$LOCK,VAL;$UPDATE,VAL,2;", "", report 36 35 0 35 25 1) ∷
+    ("36 drops no definition", "$DEF,s,1;$LOCK,s;$UPDATE,s,$DEF,m,z;;", "", report 36 37 0 37 31 2) ∷
+    ("36 in a body", "$DEF,s,100;$LOCK,s;$DEF,k,<a$UPDATE,s,~1;b>;$k,9;", "a", report 36 49 1 62 51 2) ∷
+    ("36 in an argument", "$DEF,s,1;$LOCK,s;$DEF,k,<[~1]>;$k,$UPDATE,s,2;;", "", report 36 46 0 46 36 2) ∷
+    ("UPDATE, then LOCK", "$DEF,s,100;$UPDATE,s,20;$LOCK,s;$s;$UPDATE,s,3;", "20", report 36 47 2 50 24 1) ∷
+    ("the newest of two is locked", "$DEF,s,1;$DEF,s,2;$LOCK,s;$s;$UPDATE,s,3;", "2", report 36 41 1 43 27 2) ∷
+    ("the older of two is not", "$DEF,s,1;$k,$DEF,s,2;$LOCK,s;$DEF,k,<~0$s;>;;$UPDATE,s,3;$s;", "k23", report 0 60 3 70 35 1) ∷
+    ("another name is not", "$DEF,s,1;$DEF,t,1;$LOCK,s;$UPDATE,t,2;$t;", "2", report 0 41 1 44 27 2) ∷
+    ("the mark goes with the definition", "$k,$DEF,s,1;$LOCK,s;$DEF,k,<$s;>;;$DEF,s,2;$UPDATE,s,3;$s;", "13", report 0 58 2 67 27 1) ∷
+    ("the mark moves with the definition", "$DEF,mk,<$DEF,s,1;$LOCK,s;$DEF,t,2;>;$mk,$DEF,n,3;;$UPDATE,t,4;$t;$UPDATE,s,5;", "4", report 36 78 1 107 64 3) ∷
+    ("LOCK of an older one in a body", "$DEF,s,1;$DEF,k,<$LOCK,s;>;$k;$s;$UPDATE,s,2;", "1", report 36 45 1 56 36 2) ∷
+    ("LOCK in a body within the body of its definition", "$DEF,k,<$LOCK,s;>;$DEF,s,<a$k;b>;$s;$UPDATE,s,;", "ab", report 36 47 2 62 46 2) ∷
+    ("stakes in a head", "$DEF,max,500;$LOCK,max;$DEF,bet,<[stake $max;]>;$bet;$DEF,max,900;$bet;$UPDATE,max,950;$bet;", "[stake 500][stake 900][stake 950]", report 0 92 33 147 59 3) ∷
     []
 
 -- scripts with letters in the language before request One
@@ -248,14 +284,20 @@ pub cases-by-substitution : (failing (bySubstitution now) starred ≡ []) × (fa
 unfolding substituted eval within same newest altered live among chosen deed argumentsPrice definitionsPrice meaning operand digitsFrom digitsOf
 cases-by-substitution = (refl, refl, refl)
 
--- Definitions that are left, by name, value and room, newest first -----------------------------------------------------------
+-- Definitions that are left, by name, value, room and mark, newest first ------------------------------------------------------
 
 -- the script, and what it leaves before the built-ins
 abbrev Left : Type 0
 Left = String × List Definition
 
+abbrev marked : Bool → String → String → ℕ → Definition
+marked locked n v room = record { name = ascii n; content = macro (record { value = ascii v; room = room; locked = locked }) }
+
 abbrev stands : String → String → ℕ → Definition
-stands n v room = record { name = ascii n; content = macro (record { value = ascii v; room = room }) }
+stands n v room = marked false n v room
+
+abbrev standsLocked : String → String → ℕ → Definition
+standsLocked n v room = marked true n v room
 
 abbrev updated : Left
 updated = ("$DEF,k,abc;$DEF,j,<~1>;$UPDATE,k,xy;", stands "j" "~1" 2 ∷ stands "k" "xy" 3 ∷ [])
@@ -269,6 +311,21 @@ beforeRefusal = ("$DEF,k,ab;$q,$DEF,m,z;;", stands "m" "z" 1 ∷ stands "k" "ab"
 abbrev beforeEmptyName : Left
 beforeEmptyName = ("$DEF,k,ab;$DEF,$DEF,m,z;,x;", stands "m" "z" 1 ∷ stands "k" "ab" 2 ∷ [])
 
+abbrev locked : Left
+locked = ("$DEF,k,abc;$DEF,j,x;$UPDATE,k,y;$LOCK,k;$LOCK,k;", stands "j" "x" 1 ∷ standsLocked "k" "y" 3 ∷ [])
+
+abbrev lockedThenDefined : Left
+lockedThenDefined = ("$DEF,k,a;$LOCK,k;$DEF,k,bc;$UPDATE,k,d;", stands "k" "d" 2 ∷ standsLocked "k" "a" 1 ∷ [])
+
+abbrev lockedInItsList : Left
+lockedInItsList = ("$DEF,k,a;$LOCK,k$DEF,k,b;$DEF,m,c;;", stands "k" "a" 1 ∷ [])
+
+abbrev lockedInABody : Left
+lockedInABody = ("$DEF,mk,<$DEF,m,~1;$LOCK,m;$LOCK,mk;>;$mk,v$DEF,n,w;$LOCK,n;;", standsLocked "m" "v" 1 ∷ standsLocked "mk" "$DEF,m,~1;$LOCK,m;$LOCK,mk;" 27 ∷ [])
+
+abbrev beforeLocked : Left
+beforeLocked = ("$DEF,k,ab;$LOCK,k;$UPDATE,k,c$DEF,m,z;;", stands "m" "z" 1 ∷ standsLocked "k" "ab" 2 ∷ [])
+
 abbrev leftBy : Option End → Option (List Definition)
 leftBy none = none
 leftBy (some e) = some (e .definitions)
@@ -279,13 +336,16 @@ LeftByScanning c = ran now (ascii (c .0)) .definitions ≡ c .1 ++ builtIns
 abbrev LeftBySubstitution : Left → Type 0
 LeftBySubstitution c = leftBy (substituted now 100 (ascii (c .0)) builtIns) ≡ some (c .1 ++ builtIns)
 
-pub left-by-scanning : LeftByScanning updated × LeftByScanning listAndBody × LeftByScanning beforeRefusal × LeftByScanning beforeEmptyName
+pub left-by-scanning : LeftByScanning updated × LeftByScanning listAndBody × LeftByScanning beforeRefusal × LeftByScanning beforeEmptyName × LeftByScanning locked
+    × LeftByScanning lockedThenDefined × LeftByScanning lockedInItsList × LeftByScanning lockedInABody × LeftByScanning beforeLocked
 unfolding run scan scans same newest altered live among deed argumentsPrice definitionsPrice callsCharge bodiesCharge reading meaning
-left-by-scanning = (refl, refl, refl, refl)
+left-by-scanning = (refl, refl, refl, refl, refl, refl, refl, refl, refl)
 
 pub left-by-substitution : LeftBySubstitution updated × LeftBySubstitution listAndBody × LeftBySubstitution beforeRefusal × LeftBySubstitution beforeEmptyName
+    × LeftBySubstitution locked × LeftBySubstitution lockedThenDefined × LeftBySubstitution lockedInItsList × LeftBySubstitution lockedInABody
+    × LeftBySubstitution beforeLocked
 unfolding substituted eval within same newest altered live among deed argumentsPrice definitionsPrice meaning
-left-by-substitution = (refl, refl, refl, refl)
+left-by-substitution = (refl, refl, refl, refl, refl, refl, refl, refl, refl)
 
 -- A run that starts with a definition: it is charged at once ----------------------------------------------------------------
 
@@ -345,10 +405,10 @@ passing test b (suc n) = let r = passing test (suc b) n in cond (test b) (b ∷ 
 pub numbers-that-finish : passing Outcomes.finishes 0 100 ≡ 0 ∷ 1 ∷ []
 numbers-that-finish = refl
 
-pub numbers-of-faults : passing Outcomes.faultOfText 0 100 ≡ 10 ∷ 11 ∷ 12 ∷ 13 ∷ 14 ∷ 15 ∷ 16 ∷ 17 ∷ 18 ∷ 19 ∷ 20 ∷ 21 ∷ 22 ∷ 23 ∷ 24 ∷ 33 ∷ []
+pub numbers-of-faults : passing Outcomes.faultOfText 0 100 ≡ 10 ∷ 11 ∷ 12 ∷ 13 ∷ 14 ∷ 15 ∷ 16 ∷ 17 ∷ 18 ∷ 19 ∷ 20 ∷ 21 ∷ 22 ∷ 23 ∷ 24 ∷ 33 ∷ 36 ∷ []
 numbers-of-faults = refl
 
-pub numbers-of-ends : passing Outcomes.endOfText 0 100 ≡ 0 ∷ 1 ∷ 10 ∷ 11 ∷ 12 ∷ 13 ∷ 14 ∷ 15 ∷ 16 ∷ 17 ∷ 18 ∷ 19 ∷ 20 ∷ 21 ∷ 22 ∷ 23 ∷ 24 ∷ 33 ∷ []
+pub numbers-of-ends : passing Outcomes.endOfText 0 100 ≡ 0 ∷ 1 ∷ 10 ∷ 11 ∷ 12 ∷ 13 ∷ 14 ∷ 15 ∷ 16 ∷ 17 ∷ 18 ∷ 19 ∷ 20 ∷ 21 ∷ 22 ∷ 23 ∷ 24 ∷ 33 ∷ 36 ∷ []
 numbers-of-ends = refl
 
 -- What is lent --------------------------------------------------------------------------------------------------------------
@@ -384,6 +444,11 @@ lending =
     ("4 before 5", 17, "wx", 100, "$DEF,k,abc;$VAL,k;", "wx", report 4 18 0 18 17 1) ∷
     ("4 at a choice of IF that is collected, whole or not at all", 27, "wx", 100, "$k,$IF,1,abcdef;;", "wx", report 4 16 0 16 22 0) ∷
     ("5 at a choice of IF", 16, "wxyz!", 100, "$IF,1,abcdef;", "wxyz!", report 5 13 0 13 16 0) ∷
+    ("4 at the `;` of LOCK", 16, "wx", 100, "$DEF,s,1;$LOCK,s;", "wx", report 4 17 0 17 16 1) ∷
+    ("LOCK in the last cell", 17, "wx", 100, "$DEF,s,1;$LOCK,s;$s;", "1x", report 0 20 1 23 17 1) ∷
+    ("4 before 36", 20, "wx", 100, "$DEF,s,1;$LOCK,s;$UPDATE,s,2;", "wx", report 4 29 0 29 20 1) ∷
+    ("36 in the last cell", 21, "wx", 100, "$DEF,s,1;$LOCK,s;$UPDATE,s,2;", "wx", report 36 29 0 29 21 1) ∷
+    ("4 before 15, by LOCK", 10, "wx", 100, "$LOCK,x;", "wx", report 4 8 0 8 10 0) ∷
     ("5 at a result", 18, "wx", 100, "$DEF,k,abc;$VAL,k;", "wx", report 5 18 0 18 18 1) ∷
     []
 

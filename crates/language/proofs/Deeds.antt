@@ -17,20 +17,20 @@ use Rattle.language.specs.Signs.{Bytes}
 use Rattle.language.specs.Outcomes
 use Rattle.language.specs.Outcomes.{endOfText}
 use Rattle.language.specs.declared.built_ins.BuiltIn.{BuiltIn}
-use Rattle.language.specs.declared.built_ins.BuiltIn.the-variants.{Def, Val, Update, Arithmetic, Seq, Size, If}
-use Rattle.language.specs.Definitions.{Content, macro, builtIn, Definition, Found, found, missing, newest, same, among}
-use Rattle.language.specs.BuiltIns.{Deed, reads, defines, gives, alters, faulty, deed, deedOf, performed, valueOf, updateOf, resultOf, parameter, needs}
+use Rattle.language.specs.declared.built_ins.BuiltIn.the-variants.{Def, Val, Update, Arithmetic, Seq, Size, If, Lock}
+use Rattle.language.specs.Definitions.{Content, macro, builtIn, Definition, Found, found, missing, newest, same, Change, among}
+use Rattle.language.specs.BuiltIns.{Deed, reads, defines, gives, alters, faulty, deed, deedOf, performed, valueOf, updateOf, resultOf, lockOf, parameter, needs}
 use Rattle.language.proofs.Lists.{either, by-definition}
 
 pub data Does (list : List Bytes) (ds : List Definition) : Deed → Type 0 where
   toRead : {k : ℕ} {v : Bytes} → k < length ds → Does list ds (reads k v)
   toDefine : 2 < length list → 0 < length (parameter 1 list) → Does list ds (defines (parameter 1 list) (parameter 2 list))
   toGive : {bs : Bytes} → Does list ds (gives bs)
-  toAlter : {k : ℕ} {v : Bytes} → Does list ds (alters k v)
+  toAlter : {k : ℕ} {h : Change} → Does list ds (alters k h)
   toFail : {n : ℕ} → So (endOfText n) → Does list ds (faulty n)
 
 -- a definition that is found stands
-newest-stands : (n : Bytes) (ds : List Definition) (k : ℕ) (c : Content) → newest n ds ≡ found k c → k < length ds
+pub newest-stands : (n : Bytes) (ds : List Definition) (k : ℕ) (c : Content) → newest n ds ≡ found k c → k < length ds
 unfolding newest
 newest-stands n [] k c e = let z : _≡_ {A = ℕ} 0 1 = cc in absurd (omega arith)
 newest-stands n (d ∷ ds) k c e = go (same n (d .name)) e (λ p. newest-stands n ds k c p)
@@ -50,7 +50,7 @@ module _ (busy : List ℕ) (list : List Bytes) (ds : List Definition) where
   update-does : (w : Bytes) (f : Found) → Does list ds (updateOf busy w f)
   update-does w missing = toFail tt
   update-does w (found k (builtIn b)) = toFail tt
-  update-does w (found k (macro x)) = either (Does list ds) (among k busy) (toFail tt) (either (Does list ds) (ltb (x .room) (length w)) (toFail tt) toAlter)
+  update-does w (found k (macro x)) = either (Does list ds) (x .locked) (toFail tt) (either (Does list ds) (among k busy) (toFail tt) (either (Does list ds) (ltb (x .room) (length w)) (toFail tt) toAlter))
 
   -- arithmetic: 22, 23 and 24
   result-does : (op : Operation) (a b : Option ℤ) → Does list ds (resultOf (ofOperands op a b))
@@ -61,6 +61,12 @@ module _ (busy : List ℕ) (list : List Bytes) (ds : List Definition) where
       does : Result → Type 0
       does r = Does list ds (resultOf r)
 
+  -- LOCK
+  lock-does : (f : Found) → Does list ds (lockOf f)
+  lock-does missing = toFail tt
+  lock-does (found k (macro x)) = toAlter
+  lock-does (found k (builtIn b)) = toFail tt
+
   -- each built-in that has its parameters
   performed-does : (b : BuiltIn) → needs b < length list → Does list ds (performed busy list ds b)
   performed-does Def h = by-definition (Does list ds) (parameter 1 list) (parameter 2 list) (toFail tt) (λ name. toDefine h name)
@@ -70,6 +76,7 @@ module _ (busy : List ℕ) (list : List Bytes) (ds : List Definition) where
   performed-does Seq h = toGive
   performed-does Size h = toGive
   performed-does If h = toGive
+  performed-does Lock h = lock-does (newest (parameter 1 list) ds)
 
   -- every call
   pub deed-does : Does list ds (deed busy list ds)

@@ -43,7 +43,7 @@ module _ (ev ev′ : Eval) (up : EvalBelow ev ev′) (go go′ : Go) (on : GoBel
   performBelow (reads k w) c reading stood list r h x = belowThen (up (body list) (R.around c) (k ∷ reading) w x) λ r₂ h₂. on 0 r _
   performBelow (defines n w) c reading stood list r h x = on 0 r _
   performBelow (gives bs) c reading stood list r h x = on 0 r _
-  performBelow (alters k w) c reading stood list r h x = on 0 r _
+  performBelow (alters k change) c reading stood list r h x = on 0 r _
   performBelow (faulty n) c reading stood list r h x = same
 
   applyNoneBelow : (src : Source) (c : Collecting) (b : ℕ) (r : Bytes) (h : Held) → Below (R.applyNone ev go src c b r h) (R.applyNone ev′ go′ src c b r h)

@@ -74,7 +74,7 @@ abbrev pub Allowed : List Bytes → List Definition → Deed → Type 0
 Allowed list ds (reads k v) = k < length ds
 Allowed list ds (defines n v) = definitionPrice (defined n v) ≤ listPrice list
 Allowed list ds (gives bs) = Unit {0}
-Allowed list ds (alters k v) = Unit {0}
+Allowed list ds (alters k change) = Unit {0}
 Allowed list ds (faulty n) = Unit {0}
 
 -- three arguments at least, the first two parameters among them
@@ -198,15 +198,15 @@ module _ (L : Limits) (N : ℕ) where
         } in
         goesOn j
     performKept cs (gives p) i own paid a = giveKept cs p i own
-    performKept cs (alters k v) i own paid a =
+    performKept cs (alters k change) i own paid a =
         let s = state t q (c ∷ cs) bs w in
         let f = framesOwn (i .framed) own in
-        let ds = altered k v (w .definitions) in
-        let l = length-altered k v (w .definitions) in
+        let ds = altered k change (w .definitions) in
+        let l = length-altered k change (w .definitions) in
         let j : Invariant N (S.withCalls cs (S.withDefinitions (oldest (c .stood) ds) s)) =
         record {
           framed = framesMore (f .2) (omega (arith, length-oldest (c .stood) ds (omega (arith, f .0))));
-          afforded = omega (arith, i .afforded, price-altered k v (w .definitions), price-split (c .stood) ds);
+          afforded = omega (arith, i .afforded, price-altered k change (w .definitions), price-split (c .stood) ds);
           text = i .text;
         } in
         goesOn j

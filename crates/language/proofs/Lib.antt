@@ -10,6 +10,7 @@ pub mod Depth
 pub mod Quotes
 pub mod Octets
 pub mod Names
+pub mod Locks
 pub mod Limits
 pub mod Letters
 pub mod Demand

@@ -121,7 +121,7 @@ abbrev Sound : Deed → Type 0
 Sound (reads k v) = Unit
 Sound (defines n v) = Unit
 Sound (gives bs) = Unit
-Sound (alters k v) = Unit
+Sound (alters k change) = Unit
 Sound (faulty n) = So (endOfText n)
 
 -- every fault of an applied call is of the text
@@ -259,7 +259,7 @@ module _ (L : Limits) where
   perform-alike (reads k v) h c cs s = kept refl tt
   perform-alike (defines n v) h c cs s = kept refl tt
   perform-alike (gives bs) h c cs s = give-alike cs c bs s
-  perform-alike (alters k v) h c cs s = kept refl tt
+  perform-alike (alters k change) h c cs s = kept refl tt
   perform-alike (faulty n) h c cs s = kept refl h
 
   -- `;` with an open call

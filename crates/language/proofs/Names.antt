@@ -11,8 +11,8 @@ use lib.Dec.{eqb, ltb}
 use borrow.Author.Tests.{lt-ltb, ltb-true}
 use Rattle.language.specs.Signs.{Bytes, Language, Meaning, copied, leftOut, opens, separates, applies, fetches, unquotes, meaning}
 use Rattle.language.specs.Outcomes
-use Rattle.language.specs.declared.built_ins.BuiltIn.the-variants.{Val, Update}
-use Rattle.language.specs.Definitions.{Definition, found, missing, same, newest, altered, oldest}
+use Rattle.language.specs.declared.built_ins.BuiltIn.the-variants.{Val, Update, Lock}
+use Rattle.language.specs.Definitions.{Definition, found, missing, same, newest, Change, altered, oldest}
 use Rattle.language.specs.BuiltIns.{Deed, reads, defines, gives, alters, faulty, builtIns, needs, parameter, deed}
 use Rattle.language.specs.Charge.{openPrice, endPrice}
 use Rattle.language.specs.Ends.{End}
@@ -20,7 +20,7 @@ use Rattle.language.specs.Scanning.{Call, Body, State, Step, next, stop,
 use Rattle.language.specs.Scanning as S
 use Rattle.language.specs.Substitution.{substituted}
 use Rattle.language.specs.Matched.{empty, with}
-use Rattle.language.specs.Names.{HaveNames, LooksUpEmpty, called, givenToVal, givenToUpdate, ShowsSemicolon, inText, inBody, AppliesEmpty, lookupOutcome, EndsWith}
+use Rattle.language.specs.Names.{HaveNames, byVal, byUpdate, byLock, LooksUpEmpty, called, given, ShowsSemicolon, inText, inBody, AppliesEmpty, lookupOutcome, EndsWith}
 use Rattle.language.proofs.Lists.{either, all-append, all-take, all-drop, every, all-by}
 use Rattle.language.proofs.Deeds.{Does, toRead, toDefine, toGive, toAlter, toFail, deed-does}
 use Rattle.language.proofs.Leads.{Leads, goesOn, ended, chargingLeads, writingLeads, onNext, onStop, scansLead}
@@ -40,18 +40,18 @@ Kept x = Leads StateNames EndNames x
 
 -- Definitions and deeds ----------------------------------------------------------------------------------------------
 
--- UPDATE leaves names as they are
-altered-names : (k : ℕ) (v : Bytes) {ds : List Definition} → HaveNames ds → HaveNames (altered k v ds)
+-- UPDATE and LOCK leave names as they are
+altered-names : (k : ℕ) (h : Change) {ds : List Definition} → HaveNames ds → HaveNames (altered k h ds)
 unfolding altered
-altered-names k v empty = empty
-altered-names k v (with {x = d} {xs = ds} p ps) = either HaveNames (eqb k (length ds)) (with p ps) (with p (altered-names k v ps))
+altered-names k h empty = empty
+altered-names k h (with {x = d} {xs = ds} p ps) = either HaveNames (eqb k (length ds)) (with p ps) (with p (altered-names k h ps))
 
 -- a deed that, if it is a definition, is one with a name
 abbrev DeedNames : Deed → Type 0
 DeedNames (reads k v) = Unit {0}
 DeedNames (defines n v) = 0 < length n
 DeedNames (gives bs) = Unit {0}
-DeedNames (alters k v) = Unit {0}
+DeedNames (alters k h) = Unit {0}
 DeedNames (faulty n) = Unit {0}
 
 -- what a call does
@@ -88,7 +88,7 @@ module _ (L : Limits) where
   perform-names (defines n v) c cs s q p = goesOn (with q (oldest-names (c .stood) p))
   perform-names (gives bs) c [] s q p = writingLeads L bs s (goesOn (oldest-names (c .stood) p)) (ended p)
   perform-names (gives bs) c (o ∷ cs) s q p = chargingLeads L (endPrice + length bs) s (goesOn (oldest-names (c .stood) p)) (ended p)
-  perform-names (alters k v) c cs s q p = goesOn (oldest-names (c .stood) (altered-names k v p))
+  perform-names (alters k h) c cs s q p = goesOn (oldest-names (c .stood) (altered-names k h p))
   perform-names (faulty n) c cs s q p = ended p
 
   -- `;`
@@ -217,8 +217,9 @@ pub empty-deed : (ks : List ℕ) {list : List Bytes} {ds : List Definition} → 
     → deed ks list ds ≡ faulty Outcomes.notDefined
 unfolding deed
 empty-deed ks D (called e) = rw (e, empty-missing D)
-empty-deed ks {list} D (givenToVal e h q) = rw (e, lt-ltb (needs Val) (length list) h, q, empty-missing D)
-empty-deed ks {list} D (givenToUpdate e h q) = rw (e, lt-ltb (needs Update) (length list) h, q, empty-missing D)
+empty-deed ks {list} D (given byVal e h q) = rw (e, lt-ltb (needs Val) (length list) h, q, empty-missing D)
+empty-deed ks {list} D (given byUpdate e h q) = rw (e, lt-ltb (needs Update) (length list) h, q, empty-missing D)
+empty-deed ks {list} D (given byLock e h q) = rw (e, lt-ltb (needs Lock) (length list) h, q, empty-missing D)
 
 module _ (L : Limits) (G : Language) where
   -- a `;` that applies the call c

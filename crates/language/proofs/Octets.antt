@@ -16,9 +16,9 @@ use Rattle.decimal.proofs.Bytes.{Each, OfDecimal}
 use Rattle.decimal.proofs.Laws.{shortest-bytes}
 use Rattle.language.specs.Signs.{Bytes, Language, Meaning, copied, leftOut, opens, separates, applies, fetches, unquotes, meaning}
 use Rattle.language.specs.declared.built_ins.BuiltIn.{BuiltIn}
-use Rattle.language.specs.declared.built_ins.BuiltIn.the-variants.{Def, Val, Update, Arithmetic, Seq, Size, If}
-use Rattle.language.specs.Definitions.{Content, macro, builtIn, Definition, Found, found, missing, same, newest, valued, altered, oldest, among}
-use Rattle.language.specs.BuiltIns.{Deed, reads, defines, gives, alters, faulty, builtIns, needs, parameter, valueOf, updateOf, resultOf, performed, deedOf, deed}
+use Rattle.language.specs.declared.built_ins.BuiltIn.the-variants.{Def, Val, Update, Arithmetic, Seq, Size, If, Lock}
+use Rattle.language.specs.Definitions.{Content, macro, builtIn, Definition, Found, found, missing, same, newest, Change, updates, locks, changed, altered, oldest, among}
+use Rattle.language.specs.BuiltIns.{Deed, reads, defines, gives, alters, faulty, builtIns, needs, parameter, valueOf, updateOf, resultOf, lockOf, performed, deedOf, deed}
 use Rattle.language.specs.Charge.{openPrice, endPrice}
 use Rattle.language.specs.Ends.{End}
 use Rattle.language.specs.Scanning.{Call, Body, Standing, State, Step, next, stop, Limits, listOf}
@@ -82,25 +82,31 @@ unfolding newest
 newest-octets n empty = tt
 newest-octets n (with {x = d} p ps) = either FoundOctets (same n (d .name)) (p .content) (newest-octets n ps)
 
--- a content with its value set anew
-valued-octets : {v : Bytes} → Octets v → (c : Content) → ContentOctets (valued v c)
-valued-octets p (macro x) = p
-valued-octets p (builtIn b) = tt
+-- UPDATE with a string of bytes, and LOCK
+abbrev ChangeOctets : Change → Type 0
+ChangeOctets (updates v) = Octets v
+ChangeOctets locks = Unit {0}
 
--- definitions, the value of number k set anew
-altered-octets : (k : ℕ) {v : Bytes} → Octets v → {ds : List Definition} → All DefinitionOctets ds → All DefinitionOctets (altered k v ds)
+changed-octets : (h : Change) → ChangeOctets h → (c : Content) → ContentOctets c → ContentOctets (changed h c)
+changed-octets (updates v) p (macro x) q = p
+changed-octets locks p (macro x) q = q
+changed-octets h p (builtIn b) q = tt
+
+-- definitions, number k changed
+altered-octets : (k : ℕ) (h : Change) → ChangeOctets h → {ds : List Definition} → All DefinitionOctets ds → All DefinitionOctets (altered k h ds)
 unfolding altered
-altered-octets k p empty = empty
-altered-octets k p (with {x = d} {xs = ds} q qs) =
-    either (All DefinitionOctets) (eqb k (length ds)) (with (record { name = q .name; content = valued-octets p (d .content) }) qs)
-    (with q (altered-octets k p qs))
+altered-octets k h p empty = empty
+altered-octets k h p (with {x = d} {xs = ds} q qs) =
+    either (All DefinitionOctets) (eqb k (length ds))
+    (with (record { name = q .name; content = changed-octets h p (d .content) (q .content) }) qs)
+    (with q (altered-octets k h p qs))
 
 -- the strings of a deed
 abbrev DeedOctets : Deed → Type 0
 DeedOctets (reads k v) = Octets v
 DeedOctets (defines n v) = Octets n × Octets v
 DeedOctets (gives bs) = Octets bs
-DeedOctets (alters k v) = Octets v
+DeedOctets (alters k h) = ChangeOctets h
 DeedOctets (faulty n) = Unit {0}
 
 -- VAL
@@ -112,8 +118,14 @@ value-octets (found k (builtIn b)) p = tt
 -- UPDATE
 update-octets : (ks : List ℕ) (w : Bytes) → Octets w → (f : Found) → DeedOctets (updateOf ks w f)
 update-octets ks w p missing = tt
-update-octets ks w p (found k (macro x)) = either DeedOctets (among k ks) tt (either DeedOctets (ltb (x .room) (length w)) tt p)
+update-octets ks w p (found k (macro x)) = either DeedOctets (x .locked) tt (either DeedOctets (among k ks) tt (either DeedOctets (ltb (x .room) (length w)) tt p))
 update-octets ks w p (found k (builtIn b)) = tt
+
+-- LOCK
+lock-octets : (f : Found) → DeedOctets (lockOf f)
+lock-octets missing = tt
+lock-octets (found k (macro x)) = tt
+lock-octets (found k (builtIn b)) = tt
 
 -- arithmetic
 result-octets : (r : Result) → DeedOctets (resultOf r)
@@ -130,6 +142,7 @@ module _ (ks : List ℕ) {list : List Bytes} (P : All Octets list) {ds : List De
   performed-octets Seq = either Octets (same (parameter 1 list) (parameter 2 list)) (with (omega arith) empty) (with (omega arith) empty)
   performed-octets Size = decimal-octets _ (shortest-bytes (pos _))
   performed-octets If = all-chosen empty (all-drop 1 P)
+  performed-octets Lock = lock-octets (newest (parameter 1 list) ds)
 
   -- by what the name is found to be
   deed-of-octets : (f : Found) → FoundOctets f → DeedOctets (deedOf ks list ds f)
@@ -217,8 +230,8 @@ module _ (L : Limits) where
   perform-octets (defines n v) c s p q C g =
       goesOn (holds (g .text) C (g .bodies) (with (record { name = p .0; content = p .1 }) (oldest-octets (c .stood) (g .definitions))) (g .output))
   perform-octets (gives bs) c s p q C g = give-octets c s C p g
-  perform-octets (alters k v) c s p q C g =
-      goesOn (holds (g .text) C (g .bodies) (oldest-octets (c .stood) (altered-octets k p (g .definitions))) (g .output))
+  perform-octets (alters k h) c s p q C g =
+      goesOn (holds (g .text) C (g .bodies) (oldest-octets (c .stood) (altered-octets k h p (g .definitions))) (g .output))
   perform-octets (faulty n) c s p q C g = ending n g
 
   -- `;` with a call open

@@ -15,7 +15,7 @@ use Rattle.language.specs.Signs.{Bytes, Language, Meaning, copied, leftO
 use Rattle.language.specs.Outcomes
 use Rattle.language.specs.Refusals.{refusedBy}
 use Rattle.language.specs.declared.built_ins.BuiltIn.{BuiltIn}
-use Rattle.language.specs.declared.built_ins.BuiltIn.the-variants.{Def, Val, Update, Arithmetic, Seq, Size, If}
+use Rattle.language.specs.declared.built_ins.BuiltIn.the-variants.{Def, Val, Update, Arithmetic, Seq, Size, If, Lock}
 use Rattle.language.specs.Definitions.{Definition, macro, builtIn, Found, found, missing, newest}
 use Rattle.language.specs.BuiltIns.{Deed, reads, defines, gives, alters, faulty, parameter, deedOf, deed}
 use Rattle.language.specs.Charge.{openPrice, endPrice, definitionsPrice}
@@ -76,7 +76,7 @@ module _ (L : Limits) where
   perform-adds b (gives bs) c [] s = writingLeads L bs s (goesOn (record { output = refl; read = refl; text = refl })) (stays _ s)
   perform-adds b (gives bs) c (o ∷ cs) s =
       chargingLeads L (endPrice + length bs) s (goesOn (record { output = none-adds s; read = refl; text = refl })) (stays _ s)
-  perform-adds b (alters k v) c cs s = goesOn (record { output = none-adds s; read = refl; text = refl })
+  perform-adds b (alters k h) c cs s = goesOn (record { output = none-adds s; read = refl; text = refl })
   perform-adds b (faulty n) c cs s = stays n s
 
   -- an applied call, by what is found under its name
@@ -164,12 +164,13 @@ module _ (P : Bytes → Type 0) where
   given-else Seq e = absurd (omega arith)
   given-else Size e = absurd (omega arith)
   given-else If e = absurd (omega arith)
+  given-else Lock e = absurd (omega arith)
 
   if-given : (b : BuiltIn) (cs : List Call) (d : Deed) → IfText P (giving b cs d)
   if-given b cs (gives bs) = if-puts cs (Origins.givenBy b) bs (λ e. absurd (given-else b e))
   if-given b cs (reads k v) = tt
   if-given b cs (defines n v) = tt
-  if-given b cs (alters k v) = tt
+  if-given b cs (alters k h) = tt
   if-given b cs (faulty n) = tt
 
   if-found : (f : Found) (cs : List Call) (d : Deed) → IfText P (taking f cs d)

@@ -8,7 +8,7 @@ use lib.ListN.{length, drop, length-append, length-take, length-drop, take-appen
 use lib.Seq.{drop-drop}
 use lib.Dec.{eqb}
 use Rattle.language.specs.Signs.{Bytes}
-use Rattle.language.specs.Definitions.{Content, macro, builtIn, Definition, valued, altered, oldest, newer, between, without}
+use Rattle.language.specs.Definitions.{Content, macro, builtIn, Definition, Change, updates, locks, changed, altered, oldest, newer, between, without}
 use Rattle.language.specs.Charge.{argumentsPrice, contentPrice, definitionPrice, definitionsPrice}
 
 -- arguments one behind the other
@@ -61,27 +61,28 @@ pub length-without : (n m : ℕ) (ds : List Definition) → n ≤ m → m ≤ le
 length-without n m ds h k =
     omega (arith, length-append (newer m ds) (oldest n ds), length-oldest n ds (omega arith))
 
--- an altered value moves no definition and changes no price
-content-price : (n : ℕ) (v : Bytes) (c : Content) → contentPrice n (valued v c) ≡ contentPrice n c
-content-price n v (macro x) = refl
-content-price n v (builtIn b) = refl
+-- UPDATE and LOCK move no definition and change no price
+content-price : (n : ℕ) (h : Change) (c : Content) → contentPrice n (changed h c) ≡ contentPrice n c
+content-price n (updates v) (macro x) = refl
+content-price n locks (macro x) = refl
+content-price n h (builtIn b) = refl
 
-pub price-altered : (k : ℕ) (v : Bytes) (ds : List Definition) → definitionsPrice (altered k v ds) ≡ definitionsPrice ds
+pub price-altered : (k : ℕ) (h : Change) (ds : List Definition) → definitionsPrice (altered k h ds) ≡ definitionsPrice ds
 unfolding altered definitionsPrice
-price-altered k v [] = refl
-price-altered k v (d ∷ ds) = go (eqb k (length ds)) (price-altered k v ds)
+price-altered k h [] = refl
+price-altered k h (d ∷ ds) = go (eqb k (length ds)) (price-altered k h ds)
   where
-    go : (t : Bool) → definitionsPrice (altered k v ds) ≡ definitionsPrice ds
-        → definitionsPrice (cond t (record { name = d .name; content = valued v (d .content) } ∷ ds) (d ∷ altered k v ds)) ≡ definitionsPrice (d ∷ ds)
-    go true e = ap (λ (x : ℕ). x + definitionsPrice ds) (content-price (length (d .name)) v (d .content))
+    go : (t : Bool) → definitionsPrice (altered k h ds) ≡ definitionsPrice ds
+        → definitionsPrice (cond t (record { name = d .name; content = changed h (d .content) } ∷ ds) (d ∷ altered k h ds)) ≡ definitionsPrice (d ∷ ds)
+    go true e = ap (λ (x : ℕ). x + definitionsPrice ds) (content-price (length (d .name)) h (d .content))
     go false e = ap (λ (x : ℕ). definitionPrice d + x) e
 
-pub length-altered : (k : ℕ) (v : Bytes) (ds : List Definition) → length (altered k v ds) ≡ length ds
+pub length-altered : (k : ℕ) (h : Change) (ds : List Definition) → length (altered k h ds) ≡ length ds
 unfolding altered
-length-altered k v [] = refl
-length-altered k v (d ∷ ds) = go (eqb k (length ds)) (length-altered k v ds)
+length-altered k h [] = refl
+length-altered k h (d ∷ ds) = go (eqb k (length ds)) (length-altered k h ds)
   where
-    go : (t : Bool) → length (altered k v ds) ≡ length ds
-        → length (cond t (record { name = d .name; content = valued v (d .content) } ∷ ds) (d ∷ altered k v ds)) ≡ length (d ∷ ds)
+    go : (t : Bool) → length (altered k h ds) ≡ length ds
+        → length (cond t (record { name = d .name; content = changed h (d .content) } ∷ ds) (d ∷ altered k h ds)) ≡ length (d ∷ ds)
     go true e = refl
     go false e = ap suc e

@@ -20,9 +20,9 @@ use Rattle.language.specs.Outcomes
 use Rattle.language.specs.Outcomes.{finishes}
 use Rattle.language.specs.Refusals.{isReserved, AcceptedTable}
 use Rattle.language.specs.declared.built_ins.BuiltIn.{BuiltIn}
-use Rattle.language.specs.declared.built_ins.BuiltIn.the-variants.{Def, Val, Update, Arithmetic, Seq, Size, If}
-use Rattle.language.specs.Definitions.{Content, macro, builtIn, Definition, Found, found, missing, same, newest, valued, altered, oldest, without, among, counts}
-use Rattle.language.specs.BuiltIns.{Deed, reads, defines, gives, alters, faulty, builtIns, needs, parameter, valueOf, updateOf, resultOf, performed, deedOf, deed}
+use Rattle.language.specs.declared.built_ins.BuiltIn.the-variants.{Def, Val, Update, Arithmetic, Seq, Size, If, Lock}
+use Rattle.language.specs.Definitions.{Content, macro, builtIn, Definition, Found, found, missing, same, newest, Change, updates, locks, changed, altered, oldest, without, among, counts}
+use Rattle.language.specs.BuiltIns.{Deed, reads, defines, gives, alters, faulty, builtIns, needs, parameter, valueOf, updateOf, resultOf, lockOf, performed, deedOf, deed}
 use Rattle.language.specs.Charge.{openPrice, endPrice}
 use Rattle.language.specs.Ends.{End}
 use Rattle.language.specs.Scanning.{Call, Body, Standing, State, Step, next, stop, ends, noting, withRest, Limits, listOf, reading, scan, scans, start, endOf, run}
@@ -143,17 +143,22 @@ module _ (T : Table) where
   newest-matches n empty = tt
   newest-matches n (with {x = d} v vs) = either FoundMatches (same n (d .name)) v (newest-matches n vs)
 
-  -- UPDATE with a matched value
-  valued-matches : (v : Bytes) → Matched T v → (c : Content) → ContentMatches T (valued v c)
-  valued-matches v m (macro x) = m
-  valued-matches v m (builtIn b) = tt
+  -- UPDATE with a matched value, and LOCK
+  abbrev ChangeMatches : Change → Type 0
+  ChangeMatches (updates v) = Matched T v
+  ChangeMatches locks = Unit {0}
 
-  altered-matches : (k : ℕ) (v : Bytes) → Matched T v → {ds : List Definition} → All (ValueMatches T) ds
-      → All (ValueMatches T) (altered k v ds)
+  changed-matches : (h : Change) → ChangeMatches h → (c : Content) → ContentMatches T c → ContentMatches T (changed h c)
+  changed-matches (updates v) m (macro x) p = m
+  changed-matches locks m (macro x) p = p
+  changed-matches h m (builtIn b) p = tt
+
+  altered-matches : (k : ℕ) (h : Change) → ChangeMatches h → {ds : List Definition} → All (ValueMatches T) ds
+      → All (ValueMatches T) (altered k h ds)
   unfolding altered
-  altered-matches k v m empty = empty
-  altered-matches k v m (with {x = d} {xs = ds} c cs) =
-      either (All (ValueMatches T)) (eqb k (length ds)) (with (valued-matches v m (d .content)) cs) (with c (altered-matches k v m cs))
+  altered-matches k h m empty = empty
+  altered-matches k h m (with {x = d} {xs = ds} c cs) =
+      either (All (ValueMatches T)) (eqb k (length ds)) (with (changed-matches h m (d .content) c) cs) (with c (altered-matches k h m cs))
 
   -- the definitions that stood when there were n, and all but those made between n and m
   oldest-matches : (n : ℕ) {ds : List Definition} → All (ValueMatches T) ds → All (ValueMatches T) (oldest n ds)
@@ -167,7 +172,7 @@ module _ (T : Table) where
   DeedMatches (reads k v) = Matched T v
   DeedMatches (defines n v) = Matched T v
   DeedMatches (gives bs) = Matched T bs
-  DeedMatches (alters k v) = Matched T v
+  DeedMatches (alters k h) = ChangeMatches h
   DeedMatches (faulty n) = finishes n ≡ false
 
   -- VAL
@@ -179,8 +184,14 @@ module _ (T : Table) where
   -- UPDATE
   update-matches : (ks : List ℕ) (w : Bytes) → Matched T w → (f : Found) → DeedMatches (updateOf ks w f)
   update-matches ks w m missing = refl
-  update-matches ks w m (found k (macro x)) = either DeedMatches (among k ks) refl (either DeedMatches (ltb (x .room) (length w)) refl m)
+  update-matches ks w m (found k (macro x)) = either DeedMatches (x .locked) refl (either DeedMatches (among k ks) refl (either DeedMatches (ltb (x .room) (length w)) refl m))
   update-matches ks w m (found k (builtIn b)) = refl
+
+  -- LOCK
+  lock-matches : (f : Found) → DeedMatches (lockOf f)
+  lock-matches missing = refl
+  lock-matches (found k (macro x)) = tt
+  lock-matches (found k (builtIn b)) = refl
 
   module _ (plainly : ReservedPlain T) where
     -- a byte that stands for a parameter is no sign
@@ -243,6 +254,7 @@ module _ (T : Table) where
       performed-matches Seq = either (Matched T) (same (parameter 1 list) (parameter 2 list)) (digit-matched 1 (omega arith)) (digit-matched 0 (omega arith))
       performed-matches Size = digits-matched _ _
       performed-matches If = all-chosen (matched-empty T) (all-drop 1 P)
+      performed-matches Lock = lock-matches (newest (parameter 1 list) ds)
 
       -- by what the name is found to be
       deed-of-matches : (f : Found) → FoundMatches f → DeedMatches (deedOf ks list ds f)
@@ -392,9 +404,9 @@ module _ (L : Limits) (T : Table) (plainly : ReservedPlain T) where
         matches T (of-all (CallMatches T) (g .calls .1)) (matches-output T (w .output) cs (g .output)) (g .bodies)
         (with m (oldest-matches T (c .stood) (g .values)))
     perform-keeps (gives bs) c cs m g = give-keeps bs c cs m g
-    perform-keeps (alters k v) c cs m g =
+    perform-keeps (alters k h) c cs m g =
         matches T (of-all (CallMatches T) (g .calls .1)) (matches-output T (w .output) cs (g .output)) (g .bodies)
-        (oldest-matches T (c .stood) (altered-matches T k v m (g .values)))
+        (oldest-matches T (c .stood) (altered-matches T k h m (g .values)))
     perform-keeps (faulty n) c cs m g = refused T n (stateOf t 0 (c ∷ cs) Bs w) m
 
   module _ (t : Bytes) (w : Standing) where

@@ -1,4 +1,4 @@
--- Document 01: definitions, newest first, the built-ins the oldest of them.
+-- Document 01: definitions, newest first, the built-ins the oldest of them. Document 02, Nine: a definition may be locked.
 use Prim.Native.Nat.{ℕ, _+_, _-_}
 use mathlib.Core.Bool.{Bool, true, false, cond, _&&_, _||_}
 use mathlib.Core.List.{List, [], _∷_, _++_}
@@ -7,10 +7,12 @@ use lib.Dec.{eqb}
 use Rattle.language.specs.Signs.{Bytes}
 use Rattle.language.specs.declared.built_ins.BuiltIn.{BuiltIn}
 
--- "UPDATE changes the newest definition's value; its permitted length remains that of its DEF."
+-- "UPDATE changes the newest definition's value; its permitted length remains that of its DEF." Document 02, Nine:
+-- "Substitution's definition lists carry the mark, and definitions standing are compared by it too."
 pub record Macro : Type 0 where
   pub value : Bytes
   pub room : ℕ
+  pub locked : Bool
 
 pub data Content : Type 0 where
   macro : Macro → Content
@@ -20,8 +22,9 @@ pub record Definition : Type 0 where
   pub name : Bytes
   pub content : Content
 
+-- what DEF makes: "a fresh unlocked definition"
 abbrev pub defined : Bytes → Bytes → Definition
-defined n v = record { name = n; content = macro (record { value = v; room = length v }) }
+defined n v = record { name = n; content = macro (record { value = v; room = length v; locked = false }) }
 
 unfoldable pub same : Bytes → Bytes → Bool
 same [] [] = true
@@ -38,14 +41,24 @@ unfoldable pub newest : Bytes → List Definition → Found
 newest n [] = missing
 newest n (d ∷ ds) = let r = newest n ds in cond (same n (d .name)) (found (length ds) (d .content)) r
 
-abbrev pub valued : Bytes → Content → Content
-valued v (macro x) = macro (record { value = v; room = x .room })
-valued v (builtIn b) = builtIn b
+-- what alters a definition where it stands: UPDATE gives it a value, LOCK marks it
+pub data Change : Type 0 where
+  updates : Bytes → Change
+  locks : Change
 
--- "UPDATE alters the value where the definition stands": that of the definition with this number
-unfoldable pub altered : ℕ → Bytes → List Definition → List Definition
-altered k v [] = []
-altered k v (d ∷ ds) = let r = altered k v ds in cond (eqb k (length ds)) (record { name = d .name; content = valued v (d .content) } ∷ ds) (d ∷ r)
+-- "its permitted length remains that of its DEF"; "the mark goes wherever this definition goes. Locking it again changes nothing"
+abbrev pub changedMacro : Change → Macro → Macro
+changedMacro (updates v) x = record { value = v; room = x .room; locked = x .locked }
+changedMacro locks x = record { value = x .value; room = x .room; locked = true }
+
+abbrev pub changed : Change → Content → Content
+changed h (macro x) = macro (changedMacro h x)
+changed h (builtIn b) = builtIn b
+
+-- "UPDATE alters the value where the definition stands", and LOCK "marks" it there: the definition with this number
+unfoldable pub altered : ℕ → Change → List Definition → List Definition
+altered k h [] = []
+altered k h (d ∷ ds) = let r = altered k h ds in cond (eqb k (length ds)) (record { name = d .name; content = changed h (d .content) } ∷ ds) (d ∷ r)
 
 -- the oldest n definitions: those that stood when there were n
 abbrev pub oldest : ℕ → List Definition → List Definition

@@ -14,3 +14,4 @@ pub mod Names
 pub mod Expansion
 pub mod Demand
 pub mod Origins
+pub mod Locks

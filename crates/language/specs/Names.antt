@@ -6,7 +6,8 @@ use mathlib.Core.List.{List, [], _∷_}
 use lib.ListN.{length}
 use Rattle.language.specs.Signs.{Bytes, Table, applies, meaning}
 use Rattle.language.specs.Outcomes
-use Rattle.language.specs.declared.built_ins.BuiltIn.the-variants.{Val, Update}
+use Rattle.language.specs.declared.built_ins.BuiltIn.{BuiltIn}
+use Rattle.language.specs.declared.built_ins.BuiltIn.the-variants.{Val, Update, Lock}
 use Rattle.language.specs.Definitions.{builtIn, Definition, found, newest}
 use Rattle.language.specs.BuiltIns.{needs, parameter}
 use Rattle.language.specs.Charge.{endPrice}
@@ -18,12 +19,17 @@ use Rattle.language.specs.Matched.{All}
 abbrev pub HaveNames : List Definition → Type 0
 HaveNames ds = All (λ d. 0 < length (d .name)) ds
 
+-- the built-ins that look up a name given to them
+pub data LooksUp : BuiltIn → Type 0 where
+  byVal : LooksUp Val
+  byUpdate : LooksUp Update
+  byLock : LooksUp Lock
+
 -- a call with this list of name and parameters looks up an empty name where the definitions ds stand: its own, or the one that
--- it gives to VAL or UPDATE
+-- it gives to VAL, UPDATE or LOCK
 pub data LooksUpEmpty (ds : List Definition) (list : List Bytes) : Type 0 where
   called : parameter 0 list ≡ [] → LooksUpEmpty ds list
-  givenToVal : {k : ℕ} → newest (parameter 0 list) ds ≡ found k (builtIn Val) → needs Val < length list → parameter 1 list ≡ [] → LooksUpEmpty ds list
-  givenToUpdate : {k : ℕ} → newest (parameter 0 list) ds ≡ found k (builtIn Update) → needs Update < length list → parameter 1 list ≡ [] → LooksUpEmpty ds list
+  given : {k : ℕ} {b : BuiltIn} → LooksUp b → newest (parameter 0 list) ds ≡ found k (builtIn b) → needs b < length list → parameter 1 list ≡ [] → LooksUpEmpty ds list
 
 -- the next byte is an unquoted `;`: "Bytes come from the innermost body being read, else from the text."
 pub data ShowsSemicolon (T : Table) (s : State) : Type 0 where

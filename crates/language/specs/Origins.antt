@@ -10,7 +10,7 @@ use Rattle.language.specs.Signs.{Bytes, Language, Meaning, copied, leftO
 use Rattle.language.specs.Outcomes
 use Rattle.language.specs.Refusals.{Refusal, refusedBy}
 use Rattle.language.specs.declared.built_ins.BuiltIn.{BuiltIn}
-use Rattle.language.specs.declared.built_ins.BuiltIn.the-variants.{Def, Val, Update, Arithmetic, Seq, Size, If}
+use Rattle.language.specs.declared.built_ins.BuiltIn.the-variants.{Def, Val, Update, Arithmetic, Seq, Size, If, Lock}
 use Rattle.language.specs.Definitions.{macro, builtIn, Found, found, missing, newest}
 use Rattle.language.specs.BuiltIns.{Deed, reads, defines, gives, alters, faulty, deed, parameter}
 use Rattle.language.specs.Scanning.{Call, Body, State, Step, next, stop, Limits, withBodies, withRest, listOf, reading, ownCall, scan, start}
@@ -61,13 +61,14 @@ givenBy (Arithmetic op) = givenByBuiltIn
 givenBy Seq = givenByBuiltIn
 givenBy Size = givenByBuiltIn
 givenBy If = givenByBuiltIn
+givenBy Lock = givenByBuiltIn
 
 -- what a built-in gives, the calls cs being open around it
 abbrev pub giving : BuiltIn → List Call → Deed → Option Writes
 giving b cs (gives bs) = puts cs (givenBy b) bs
 giving b cs (reads k v) = none
 giving b cs (defines n v) = none
-giving b cs (alters k v) = none
+giving b cs (alters k change) = none
 giving b cs (faulty n) = none
 
 -- "the newest definition with that name is taken": a body is read from the next scan

@@ -81,13 +81,17 @@ noScript = 34
 abbrev pub numbersTooShort : ℕ
 numbersTooShort = 35
 
+-- Document 02, Nine: "36, a fault of the text, for UPDATE of a locked definition"
+abbrev pub locked : ℕ
+locked = 36
+
 -- "A run finishes with 0 or 1"
 abbrev pub finishes : ℕ → Bool
 finishes n = eqb n finished || eqb n finishedAtQuote
 
 -- "a fault of the text is an outcome from 10 to 24"; document 02: "10 to 24 .. take in each number so called"
 abbrev pub faultOfText : ℕ → Bool
-faultOfText n = (leb 10 n && leb n 24) || eqb n emptyName
+faultOfText n = (leb 10 n && leb n 24) || eqb n emptyName || eqb n locked
 
 -- the ends that substitution has: the run finishes or meets a fault of the text
 abbrev pub endOfText : ℕ → Bool

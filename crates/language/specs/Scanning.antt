@@ -213,7 +213,7 @@ module _ (L : Limits) where
   perform (reads k v) c cs s = next (withBodies (newBody k v c cs s ∷ s .bodies) (withCalls cs s))
   perform (defines n v) c cs s = next (withCalls cs (withDefinitions (defined n v ∷ oldest (c .stood) (s .standing .definitions)) s))
   perform (gives bs) c cs s = give cs c bs s
-  perform (alters k v) c cs s = next (withCalls cs (withDefinitions (oldest (c .stood) (altered k v (s .standing .definitions))) s))
+  perform (alters k change) c cs s = next (withCalls cs (withDefinitions (oldest (c .stood) (altered k change (s .standing .definitions))) s))
   perform (faulty n) c cs s = ends n s
 
   -- "Checks at `;`: 10, 4 for its own cell, 15, 13, then the built-in's, then 4, then 5."

@@ -202,8 +202,8 @@ module _ (nested : Eval) (go : Go) where
   perform (gives bs) c reading stood list r h x =
       let h₂ = put c bs (handing x h) in
       go 0 r (handing (released list (newer stood (x .definitions)) (oldest stood (x .definitions)) (h₂ .handed)) h₂)
-  perform (alters k w) c reading stood list r h x =
-      let ds = altered k w (x .definitions) in
+  perform (alters k change) c reading stood list r h x =
+      let ds = altered k change (x .definitions) in
       go 0 r (handing (released list (newer stood ds) (oldest stood ds) x) h)
   perform (faulty n) c reading stood list r h x = finish (endAt n x)
 

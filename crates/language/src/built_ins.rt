@@ -11,6 +11,7 @@ pub enum BuiltIn {
     Seq,
     Size,
     If,
+    Lock,
 }
 
 impl BuiltIn {
@@ -26,6 +27,7 @@ impl BuiltIn {
             BuiltIn::Seq => 2,
             BuiltIn::Size => 1,
             BuiltIn::If => 2,
+            BuiltIn::Lock => 1,
         }
     }
 }

@@ -46,3 +46,5 @@ pub const EMPTY_NAME: u32 = 33;
 pub const NO_SCRIPT: u32 = 34;
 
 pub const NUMBERS_TOO_SHORT: u32 = 35;
+
+pub const LOCKED: u32 = 36;

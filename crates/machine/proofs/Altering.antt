@@ -1,36 +1,57 @@
--- UPDATE: a definition's value is changed where it stands. What that is in items, frames, definitions and cells; no width changes,
+-- UPDATE and LOCK: a definition is changed where it stands. What that is in items, frames, definitions and cells; no width changes,
 -- and so no position does.
 use Prim.Native.Nat.{ℕ, suc, _+_, _≤_, _<_}
 use native.Mathlib.Omega.{arith}
-use mathlib.Core.Path.{_≡_, refl, sym, ap, _∙_}
-use mathlib.Core.Bool.{Bool, true, false, cond, _||_, true≢false}
+use mathlib.Core.Path.{_≡_, refl, sym, ap, subst, _∙_}
+use mathlib.Core.Bool.{Bool, true, false, cond, _||_}
 use mathlib.Core.List.{List, [], _∷_, _++_, append-assoc}
 use lib.ListN.{length, take, drop, set, length-append, length-take, length-drop, take-append-drop}
 use lib.Seq.{take-all, take-at, drop-at, drop-drop, drop-append-le, take-append-le, take-take, length-take-le, set-at}
 use lib.Dec.{eqb}
-use borrow.Author.Tests.{eq-eqb, ne-eqb, eqb-false}
+use borrow.Author.Tests.{eq-eqb, ne-eqb, eqb-true}
 use Rattle.language.specs.Signs.{Bytes}
-use Rattle.language.specs.Definitions.{Definition, altered, valued, among}
+use Rattle.language.specs.Definitions.{macro, Definition, Change, updates, locks, changed, altered, among}
 use Rattle.language.specs.Scanning.{reading}
 use Rattle.memory.specs.Block.{placed}
+use Rattle.machine.proofs.Finds.{HoldsItems}
 use Rattle.machine.proofs.Items.{encode-append, width-append, width-cons, definitions-append, count-append}
-use Rattle.machine.specs.Items.{definitionOf, Item, defined, listed, encodeItem, encode, width, definitionsOf, count, Definitions}
+use Rattle.machine.specs.Items.{macroOf, definitionOf, Item, defined, listed, encodeItem, encode, width, definitionsOf, count, Definitions}
 use Rattle.machine.specs.Frames.{Frame, made, collects, reads, address, At, here, there, applying, laid, items, places, lefts, calls, bodies, Valid}
-use Rattle.machine.specs.Walks.{headSize, withValueLength}
+use Rattle.machine.specs.Walks.{headSize, withLock, withValueLength}
 
 -- Items --------------------------------------------------------------------------------------------------------------
 
--- the value w is given to definition number k
-module _ (k : ℕ) (w : Bytes) where
-  -- the value of definition number m, and what it leaves of its room: number k has the new one, as far as the room goes
+-- the lock of a definition that is changed, its value, as far as the room goes, and what that leaves of the room
+abbrev pub lockBy : Change → ℕ → ℕ
+lockBy (updates w) f = f
+lockBy locks f = 1
+
+abbrev pub valueBy : Change → Bytes → Bytes → Bytes
+valueBy (updates w) value spare = take (length value + length spare) w
+valueBy locks value spare = value
+
+abbrev pub spareBy : Change → Bytes → Bytes → Bytes
+spareBy (updates w) value spare = drop (length w) (value ++ spare)
+spareBy locks value spare = spare
+
+-- the room is as large as before
+room-kept : (h : Change) (value spare : Bytes) → length (valueBy h value spare) + length (spareBy h value spare) ≡ length value + length spare
+room-kept (updates w) value spare = simp (length-append, length-take, length-drop) (omega arith)
+room-kept locks value spare = refl
+
+-- definition number k is changed
+module _ (k : ℕ) (h : Change) where
+  abbrev pub newLock : ℕ → ℕ → ℕ
+  newLock m f = cond (eqb k m) (lockBy h f) f
+
   abbrev pub newValue : ℕ → Bytes → Bytes → Bytes
-  newValue m value spare = cond (eqb k m) (take (length value + length spare) w) value
+  newValue m value spare = cond (eqb k m) (valueBy h value spare) value
 
   abbrev pub newSpare : ℕ → Bytes → Bytes → Bytes
-  newSpare m value spare = cond (eqb k m) (drop (length w) (value ++ spare)) spare
+  newSpare m value spare = cond (eqb k m) (spareBy h value spare) spare
 
   abbrev pub alterItem : ℕ → Item → Item
-  alterItem m (defined f name value spare) = defined f name (newValue m value spare) (newSpare m value spare)
+  alterItem m (defined f name value spare) = defined (newLock m f) name (newValue m value spare) (newSpare m value spare)
   alterItem m (listed to links reader list) = listed to links reader list
 
   -- each item by its number; `base` definitions are older than all items
@@ -42,9 +63,9 @@ module _ (k : ℕ) (w : Bytes) where
   item-width : (m : ℕ) (i : Item) → length (encodeItem (alterItem m i)) ≡ length (encodeItem i)
   item-width m (defined f name value spare) = go (eqb k m)
     where
-      go : (t : Bool) → length (encodeItem (defined f name (cond t (take (length value + length spare) w) value) (cond t (drop (length w) (value ++ spare)) spare)))
+      go : (t : Bool) → length (encodeItem (defined (cond t (lockBy h f) f) name (cond t (valueBy h value spare) value) (cond t (spareBy h value spare) spare)))
           ≡ length (encodeItem (defined f name value spare))
-      go true = simp (length-append, length-take, length-drop) (omega arith)
+      go true = simp length-append (omega (arith, room-kept h value spare))
       go false = refl
   item-width m (listed to links reader list) = refl
 
@@ -86,35 +107,42 @@ module _ (k : ℕ) (w : Bytes) where
       rw (ne-eqb k (base + count its) (h (count its) (omega arith)), alter-none base its (λ m q. h m (omega arith)))
   alter-none base (listed to links reader list ∷ its) h = rw (alter-none base its h)
 
-  -- the other definitions stay as they are
-  pub alter-at : {n base d j : ℕ} {its : List Item} {v : Bytes} → At n base its d j v → (j ≡ k → ⊥) → At n base (alterItems base its) d j v
+  -- a definition stays where it stands, and so does its value, unless the change is of this value
+  pub alter-at : {n base d j : ℕ} {its : List Item} {v : Bytes} → At n base its d j v → (j ≡ k → (value spare : Bytes) → valueBy h value spare ≡ value)
+      → At n base (alterItems base its) d j v
   unfolding alterItems
-  alter-at {n} {base} (here {f} {name} {value} {spare} {items = its} e q) h =
+  alter-at {n} {base} {d} {j} (here {f} {name} {value} {spare} {items = its} e q) kept =
       let i = defined f name value spare in
-      let a : address n (i ∷ its) ≡ address n (i ∷ alterItems base its) = omega (arith, width-cons i its, alter-width base its, width-cons i (alterItems base its)) in
+      let m = base + count its in
+      let a : address n (i ∷ its) ≡ address n (alterItem m i ∷ alterItems base its) =
+      omega (arith, width-cons i its, item-width m i, alter-width base its, width-cons (alterItem m i) (alterItems base its)) in
       let c : base + count its ≡ base + count (alterItems base its) = omega (arith, alter-count base its) in
-      rw (ne-eqb k (base + count its) (λ x. h (q ∙ sym x))) (here (e ∙ a) (q ∙ c))
-  alter-at (there a) h = there (alter-at a h)
+      subst (λ (x : Bytes). At n base (alterItem m i ∷ alterItems base its) d j x) (same (eqb k m) refl) (here (e ∙ a) (q ∙ c))
+    where
+      same : (t : Bool) → eqb k (base + count its) ≡ t → cond t (valueBy h value spare) value ≡ value
+      same true y = kept (q ∙ sym (eqb-true k (base + count its) y)) value spare
+      same false y = refl
+  alter-at (there a) kept = there (alter-at a kept)
 
 -- Frames -------------------------------------------------------------------------------------------------------------
 
--- where one test of two would do, and does not, neither passes
-neither : (a b : Bool) → a || b ≡ false → (a ≡ false) × (b ≡ false)
-neither true b e = absurd (true≢false e)
-neither false b e = (refl, e)
+-- where the second of two tests passes, one does
+or-second : (a b : Bool) → b ≡ true → a || b ≡ true
+or-second true b e = refl
+or-second false b e = e
 
-module _ (n base k : ℕ) (w : Bytes) where
+module _ (n base k : ℕ) (h : Change) where
   -- a frame's definitions are altered as its items are
   unfoldable pub alter : List Frame → List Frame
   alter [] = []
   alter (made f name value spare ∷ fs) =
       let m = base + count (items n base fs) in
-      made f name (newValue k w m value spare) (newSpare k w m value spare) ∷ alter fs
+      made (newLock k h m f) name (newValue k h m value spare) (newSpare k h m value spare) ∷ alter fs
   alter (collects ended hand waits ∷ fs) = collects ended hand waits ∷ alter fs
-  alter (reads list since d j v o ∷ fs) = reads list (alterItems k w (base + count (items n base fs)) since) d j v o ∷ alter fs
+  alter (reads list since d j v o ∷ fs) = reads list (alterItems k h (base + count (items n base fs)) since) d j v o ∷ alter fs
 
   -- the items are the altered ones, and the positions stay
-  pub alterLaid : (fs : List Frame) → (items n base (alter fs) ≡ alterItems k w base (items n base fs)) × (places n base (alter fs) ≡ places n base fs)
+  pub alterLaid : (fs : List Frame) → (items n base (alter fs) ≡ alterItems k h base (items n base fs)) × (places n base (alter fs) ≡ places n base fs)
   unfolding laid alter alterItems
   alterLaid [] = (refl, refl)
   alterLaid (made f name value spare ∷ fs) = let r = alterLaid fs in (rw (r .0), r .1)
@@ -123,9 +151,9 @@ module _ (n base k : ℕ) (w : Bytes) where
       let r = alterLaid fs in
       let its = items n base fs in
       let whole = items n base (reads list since d j v o ∷ fs) in
-      let i : items n base (alter (reads list since d j v o ∷ fs)) ≡ alterItems k w base whole =
-      rw (r .0, r .1, alter-width k w base its, alter-append k w base since its) in
-      (i, ap (λ (x : List Item). applying (places n base (alter fs)) (address n x) d o) i ∙ rw (r .1, alter-width k w base whole))
+      let i : items n base (alter (reads list since d j v o ∷ fs)) ≡ alterItems k h base whole =
+      rw (r .0, r .1, alter-width k h base its, alter-append k h base since its) in
+      (i, ap (λ (x : List Item). applying (places n base (alter fs)) (address n x) d o) i ∙ rw (r .1, alter-width k h base whole))
 
   -- the left stack stays
   pub alterLefts : (fs : List Frame) → lefts n base (alter fs) ≡ lefts n base fs
@@ -134,7 +162,7 @@ module _ (n base k : ℕ) (w : Bytes) where
   alterLefts (made f name value spare ∷ fs) = alterLefts fs
   alterLefts (collects ended hand waits ∷ fs) =
       let r = alterLaid fs in
-      rw (alterLefts fs, r .0, r .1, alter-width k w base (items n base fs))
+      rw (alterLefts fs, r .0, r .1, alter-width k h base (items n base fs))
   alterLefts (reads list since d j v o ∷ fs) = alterLefts fs
 
   -- the calls stay
@@ -142,7 +170,7 @@ module _ (n base k : ℕ) (w : Bytes) where
   unfolding calls alter
   alterCalls [] = refl
   alterCalls (made f name value spare ∷ fs) = alterCalls fs
-  alterCalls (collects ended hand waits ∷ fs) = rw (alterCalls fs, alterLaid fs .0, alter-count k w base (items n base fs))
+  alterCalls (collects ended hand waits ∷ fs) = rw (alterCalls fs, alterLaid fs .0, alter-count k h base (items n base fs))
   alterCalls (reads list since d j v o ∷ fs) = alterCalls fs
 
   -- the bodies stay
@@ -153,46 +181,51 @@ module _ (n base k : ℕ) (w : Bytes) where
   alterBodies (collects ended hand waits ∷ fs) = alterBodies fs
   alterBodies (reads list since d j v o ∷ fs) =
       let its = items n base fs in
-      rw (alterBodies fs, alterCalls fs, alterLaid fs .0, ← alter-append k w base since its, alter-count k w base its, alter-count k w base (since ++ its))
+      rw (alterBodies fs, alterCalls fs, alterLaid fs .0, ← alter-append k h base since its, alter-count k h base its, alter-count k h base (since ++ its))
 
-  -- where no body reads the definition, each body's definition stands as before
-  pub alterValid : (fs : List Frame) → among k (reading (bodies n base fs)) ≡ false → Valid n base fs → Valid n base (alter fs)
+  -- where a body reads the definition, its value stays
+  abbrev pub KeepsRead : List ℕ → Type 0
+  KeepsRead busy = among k busy ≡ true → (value spare : Bytes) → valueBy h value spare ≡ value
+
+  -- so each body's definition stands as before
+  pub alterValid : (fs : List Frame) → KeepsRead (reading (bodies n base fs)) → Valid n base fs → Valid n base (alter fs)
   unfolding Valid bodies alter among reading
-  alterValid [] h v = v
-  alterValid (made f name value spare ∷ fs) h v = alterValid fs h v
-  alterValid (collects ended hand waits ∷ fs) h v = alterValid fs h v
-  alterValid (reads list since d j x o ∷ fs) h v =
+  alterValid [] kept v = v
+  alterValid (made f name value spare ∷ fs) kept v = alterValid fs kept v
+  alterValid (collects ended hand waits ∷ fs) kept v = alterValid fs kept v
+  alterValid (reads list since d j x o ∷ fs) kept v =
       let its = items n base fs in
-      let t = neither (eqb k j) (among k (reading (bodies n base fs))) h in (
-        alterValid fs (t .1) (v .0),
-        alter-definitions k w (base + count its) since (v .1),
-        rw (alterLaid fs .0, ← alter-append k w base since its) (alter-at k w (v .2) (λ e. eqb-false k j (t .0) (sym e))),
+      let busy = among k (reading (bodies n base fs)) in (
+        alterValid fs (λ e. kept (or-second (eqb k j) busy e)) (v .0),
+        alter-definitions k h (base + count its) since (v .1),
+        rw (alterLaid fs .0, ← alter-append k h base since its)
+            (alter-at k h (v .2) (λ e. kept (ap (λ (y : Bool). y || busy) (eq-eqb k j (sym e))))),
         v .3,
         v .4,
       )
 
 -- The definition -----------------------------------------------------------------------------------------------------
 
--- where a definition stands among the items, with its name and what its value leaves of its room
+-- where a definition stands among the items, with its lock, its name and what its value leaves of its room
 pub record Spot (n base : ℕ) (its : List Item) (d k : ℕ) (v : Bytes) : Type 0 where
   pub newer : List Item
-  pub free : ℕ
+  pub lock : ℕ
   pub name : Bytes
   pub spare : Bytes
   pub older : List Item
-  pub is : its ≡ newer ++ (defined free name v spare ∷ older)
-  pub at : d ≡ address n (defined free name v spare ∷ older)
+  pub is : its ≡ newer ++ (defined lock name v spare ∷ older)
+  pub at : d ≡ address n (defined lock name v spare ∷ older)
   pub number : k ≡ base + count older
 
 -- a definition at a position stands somewhere among the items
 pub spotOf : {n base d k : ℕ} {its : List Item} {v : Bytes} → At n base its d k v → Spot n base its d k v
 spotOf (here {f} {name} {spare} {items} e q) =
-    record { newer = []; free = f; name = name; spare = spare; older = items; is = refl; at = e; number = q }
+    record { newer = []; lock = f; name = name; spare = spare; older = items; is = refl; at = e; number = q }
 spotOf (there {i} a) =
     let r = spotOf a in
     record {
       newer = i ∷ r .newer;
-      free = r .free;
+      lock = r .lock;
       name = r .name;
       spare = r .spare;
       older = r .older;
@@ -202,13 +235,13 @@ spotOf (there {i} a) =
     }
 
 -- the definition that stands before as many as its number is the one altered
-altered-at : (k : ℕ) (w : Bytes) (a : List Definition) (x : Definition) (b : List Definition) → k ≡ length b
-    → altered k w (a ++ (x ∷ b)) ≡ a ++ (record { name = x .name; content = valued w (x .content) } ∷ b)
+altered-at : (k : ℕ) (h : Change) (a : List Definition) (x : Definition) (b : List Definition) → k ≡ length b
+    → altered k h (a ++ (x ∷ b)) ≡ a ++ (record { name = x .name; content = changed h (x .content) } ∷ b)
 unfolding altered
-altered-at k w [] x b e = rw (eq-eqb k (length b) e)
-altered-at k w (y ∷ a) x b e =
+altered-at k h [] x b e = rw (eq-eqb k (length b) e)
+altered-at k h (y ∷ a) x b e =
     let l = length-append a (x ∷ b) in
-    rw (ne-eqb k (length (a ++ (x ∷ b))) (λ q. omega arith), altered-at k w a x b e)
+    rw (ne-eqb k (length (a ++ (x ∷ b))) (λ q. omega arith), altered-at k h a x b e)
 
 -- w placed behind b, and y set before b
 overwritten : (a b c w : List ℕ) (x y i j : ℕ) → length a ≡ i → j ≡ i + 1 + length b
@@ -223,75 +256,117 @@ overwritten a b c w x y i j e h =
 abbrev pub stored : ℕ → Bytes → Bytes → List ℕ → List ℕ
 stored d name w l = withValueLength (placed (d + headSize + length name) w l) d (length w)
 
-module _ {n base d k : ℕ} {its : List Item} {v : Bytes} (s : Spot n base its d k v) (w : Bytes) (fit : length w ≤ length v + length (s .spare)) where
-  -- what the new value leaves of the room
-  abbrev unused : Bytes
-  unused = drop (length w) (v ++ s .spare)
+-- a new value is no longer than the room
+abbrev pub Fits : Change → ℕ → Type 0
+Fits (updates w) room = length w ≤ room
+Fits locks room = Unit {0}
 
-  -- the room is as large as before
-  sameRoom : length w + length unused ≡ length v + length (s .spare)
-  sameRoom = omega (arith, length-drop (length w) (v ++ s .spare), length-append v (s .spare))
+-- what the language has of a changed definition
+changed-is : (h : Change) (f : ℕ) (name v spare : Bytes) → Fits h (length v + length spare)
+    → definitionOf (lockBy h f) name (valueBy h v spare) (spareBy h v spare) ≡ record { name = name; content = changed h (macro (macroOf f v spare)) }
+changed-is (updates w) f name v spare fit = rw (room-kept (updates w) v spare, take-all (length v + length spare) w fit)
+changed-is locks f name v spare fit = refl
 
-  -- the items with the new value
-  pub alterIs : alterItems k w base its ≡ s .newer ++ (defined (s .free) (s .name) w unused ∷ s .older)
+module _ {n base d k : ℕ} {its : List Item} {v : Bytes} (s : Spot n base its d k v) (h : Change) where
+  -- the definition, changed
+  abbrev changedItem : Item
+  changedItem = defined (lockBy h (s .lock)) (s .name) (valueBy h v (s .spare)) (spareBy h v (s .spare))
+
+  -- the items with it
+  alterIs : alterItems k h base its ≡ s .newer ++ (changedItem ∷ s .older)
   unfolding alterItems definitionsOf
   alterIs =
       let q = s .number in
-      let i : Item = defined (s .free) (s .name) v (s .spare) in
-      ap (alterItems k w base) (s .is)
-      ∙ alter-append k w base (s .newer) (i ∷ s .older)
-      ∙ rw (alter-none k w (base + count (i ∷ s .older)) (s .newer) (λ m h e. omega arith), alter-none k w base (s .older) (λ m h e. omega arith))
-      (rw (eq-eqb k (base + count (s .older)) q, take-all (length v + length (s .spare)) w fit))
+      let i : Item = defined (s .lock) (s .name) v (s .spare) in
+      ap (alterItems k h base) (s .is)
+      ∙ alter-append k h base (s .newer) (i ∷ s .older)
+      ∙ rw (alter-none k h (base + count (i ∷ s .older)) (s .newer) (λ m y e. omega arith), alter-none k h base (s .older) (λ m y e. omega arith))
+      (rw (eq-eqb k (base + count (s .older)) q))
 
-  -- the definitions with the new value
-  pub alterDefinitions : (older : List Definition) → length older ≡ base → definitionsOf (alterItems k w base its) ++ older ≡ altered k w (definitionsOf its ++ older)
+  -- the definitions with it
+  pub alterDefinitions : Fits h (length v + length (s .spare)) → (older : List Definition) → length older ≡ base
+      → definitionsOf (alterItems k h base its) ++ older ≡ altered k h (definitionsOf its ++ older)
   unfolding definitionsOf
-  alterDefinitions older e =
+  alterDefinitions fit older e =
       let q = s .number in
-      let x : Definition = definitionOf (s .name) v (s .spare) in
+      let x : Definition = definitionOf (s .lock) (s .name) v (s .spare) in
       rw (alterIs, s .is)
-      (simp (definitions-append, append-assoc, sameRoom)
-      (sym (altered-at k w (definitionsOf (s .newer)) x (definitionsOf (s .older) ++ older) (omega (arith, length-append (definitionsOf (s .older)) older)))))
+      (simp (definitions-append, append-assoc, changed-is h (s .lock) (s .name) v (s .spare) fit)
+      (sym (altered-at k h (definitionsOf (s .newer)) x (definitionsOf (s .older) ++ older) (omega (arith, length-append (definitionsOf (s .older)) older)))))
 
-  module _ (right : ℕ) (l : List ℕ) (size : length l ≡ n) (fits : right + width its ≡ n) (cells : drop right l ≡ encode its) where
-    -- how many of the cells lie before the items
-    before : length (take right l) ≡ right
-    before = length-take-le right l (omega arith)
+-- how many of the cells lie before the items
+before : {n : ℕ} {its : List Item} {right : ℕ} {l : List ℕ} → HoldsItems n l right its → length (take right l) ≡ right
+before {right = right} {l = l} x = length-take-le right l (omega (arith, x .size, x .ends))
 
-    -- what stands before the items, and then the altered items
-    alterCells : stored d (s .name) w l ≡ take right l ++ encode (alterItems k w base its)
-    unfolding encode
-    alterCells =
-        let i : Item = defined (s .free) (s .name) v (s .spare) in
-        let head : List ℕ = s .free ∷ length (s .name) ∷ (length v + length (s .spare)) ∷ [] in
-        let a = take right l ++ (encode (s .newer) ++ head) in
-        let c = (v ++ s .spare) ++ encode (s .older) in
-        let whole : l ≡ a ++ (length v ∷ (s .name ++ c)) = sym (take-append-drop right l) ∙ rw (cells, s .is, encode-append (s .newer) (i ∷ s .older)) (simp append-assoc) in
-        let first : length a ≡ d + 3 =
-        omega (
-          arith,
-          length-append (take right l) (encode (s .newer) ++ head),
-          length-append (encode (s .newer)) head,
-          before,
-          s .at,
-          ap width (s .is),
-          width-append (s .newer) (i ∷ s .older),
-        ) in
-        ap (stored d (s .name) w) whole
-        ∙ overwritten a (s .name) c w (length v) (length w) (d + 3) (d + headSize + length (s .name)) first (omega arith)
-        ∙ rw (alterIs, encode-append, drop-append-le (length w) (v ++ s .spare) (encode (s .older)) (omega (arith, length-append v (s .spare))), sameRoom) (simp append-assoc)
+-- the cells l with the items from `right` on altered
+pub record Alters (k : ℕ) (h : Change) (base : ℕ) (its : List Item) (right : ℕ) (l l′ : List ℕ) : Type 0 where
+  pub is : l′ ≡ take right l ++ encode (alterItems k h base its)
 
-    -- as many cells as before
-    pub alterSize : length (stored d (s .name) w l) ≡ n
-    alterSize = ap length alterCells ∙ omega (arith, length-append (take right l) (encode (alterItems k w base its)), before, alter-width k w base its)
+module _ {n base d k : ℕ} {its : List Item} {v : Bytes} (s : Spot n base its d k v) {right : ℕ} {l : List ℕ} (x : HoldsItems n l right its) where
+  -- the cells before the definition, and how many they are
+  abbrev ahead : List ℕ
+  ahead = take right l ++ encode (s .newer)
 
-    -- from `right` on stand the altered items
-    pub alterHigh : drop right (stored d (s .name) w l) ≡ encode (alterItems k w base its)
-    alterHigh = ap (drop right) alterCells ∙ drop-at (take right l) (encode (alterItems k w base its)) right before
+  many : length ahead ≡ d
+  many =
+      let i : Item = defined (s .lock) (s .name) v (s .spare) in
+      omega (
+        arith,
+        length-append (take right l) (encode (s .newer)),
+        before x,
+        x .ends,
+        s .at,
+        ap width (s .is),
+        width-append (s .newer) (i ∷ s .older),
+      )
 
-    -- what stands before `right` stays
-    pub alterLow : (p : ℕ) → p ≤ right → take p (stored d (s .name) w l) ≡ take p l
-    alterLow p h =
-        ap (take p) alterCells
-        ∙ take-append-le p (take right l) (encode (alterItems k w base its)) (omega (arith, before))
-        ∙ take-take p right l h
+  -- the cells by what stands in them
+  whole : l ≡ ahead ++ (s .lock ∷ length (s .name) ∷ (length v + length (s .spare)) ∷ length v ∷ (s .name ++ ((v ++ s .spare) ++ encode (s .older))))
+  unfolding encode
+  whole =
+      let i : Item = defined (s .lock) (s .name) v (s .spare) in
+      sym (take-append-drop right l) ∙ rw (x .cells, s .is, encode-append (s .newer) (i ∷ s .older)) (simp append-assoc)
+
+  -- UPDATE: a value that fits, and its length
+  pub updateAlters : (w : Bytes) → length w ≤ length v + length (s .spare) → Alters k (updates w) base its right l (stored d (s .name) w l)
+  unfolding encode
+  updateAlters w fit =
+      let head : List ℕ = s .lock ∷ length (s .name) ∷ (length v + length (s .spare)) ∷ [] in
+      let a = ahead ++ head in
+      let c = (v ++ s .spare) ++ encode (s .older) in
+      let unused = drop (length w) (v ++ s .spare) in
+      let first : length a ≡ d + 3 = omega (arith, length-append ahead head, many) in
+      let split : l ≡ a ++ (length v ∷ (s .name ++ c)) = whole ∙ simp append-assoc in
+      let sameRoom : length w + length unused ≡ length v + length (s .spare) = omega (arith, length-drop (length w) (v ++ s .spare), length-append v (s .spare)) in
+      let items : alterItems k (updates w) base its ≡ s .newer ++ (defined (s .lock) (s .name) w unused ∷ s .older) =
+      alterIs s (updates w)
+      ∙ ap (λ (y : Bytes). s .newer ++ (defined (s .lock) (s .name) y unused ∷ s .older)) (take-all (length v + length (s .spare)) w fit) in
+      record {
+        is =
+            ap (stored d (s .name) w) split
+            ∙ overwritten a (s .name) c w (length v) (length w) (d + 3) (d + headSize + length (s .name)) first (omega arith)
+            ∙ rw (items, encode-append, drop-append-le (length w) (v ++ s .spare) (encode (s .older)) (omega (arith, length-append v (s .spare))), sameRoom) (simp append-assoc);
+      }
+
+  -- LOCK: the mark
+  pub lockAlters : Alters k locks base its right l (withLock l d)
+  unfolding encode
+  lockAlters =
+      let rest : List ℕ = length (s .name) ∷ (length v + length (s .spare)) ∷ length v ∷ (s .name ++ ((v ++ s .spare) ++ encode (s .older))) in
+      record { is = ap (λ (y : List ℕ). withLock y d) whole ∙ set-at ahead (s .lock) rest 1 d many ∙ rw (alterIs s locks, encode-append) (simp append-assoc) }
+
+module _ {n base k : ℕ} {its : List Item} {h : Change} {right : ℕ} {l l′ : List ℕ} (x : HoldsItems n l right its) (e : Alters k h base its right l l′) where
+  -- as many cells as before
+  pub alterSize : length l′ ≡ n
+  alterSize = ap length (e .is) ∙ omega (arith, length-append (take right l) (encode (alterItems k h base its)), before x, x .ends, alter-width k h base its)
+
+  -- from `right` on stand the altered items
+  pub alterHigh : drop right l′ ≡ encode (alterItems k h base its)
+  alterHigh = ap (drop right) (e .is) ∙ drop-at (take right l) (encode (alterItems k h base its)) right (before x)
+
+  -- what stands before `right` stays
+  pub alterLow : (p : ℕ) → p ≤ right → take p l′ ≡ take p l
+  alterLow p q =
+      ap (take p) (e .is)
+      ∙ take-append-le p (take right l) (encode (alterItems k h base its)) (omega (arith, before x))
+      ∙ take-take p right l q

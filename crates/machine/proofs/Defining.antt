@@ -2,6 +2,7 @@
 use Prim.Native.Nat.{ℕ, zero, suc, _+_, _-_, _≤_, _<_}
 use native.Mathlib.Omega.{arith}
 use mathlib.Core.Path.{_≡_, refl, sym, ap, _∙_}
+use mathlib.Core.Bool.{false}
 use mathlib.Core.List.{List, [], _∷_, _++_, append-assoc, append-nil}
 use lib.ListN.{length, take, drop, getD, set, length-append, length-drop, take-append-drop}
 use lib.Seq.{take-append-le, drop-at, take-take, drop-append-le, length-take-le, sets-eq}
@@ -199,8 +200,8 @@ module _ {n : ℕ} {older : List Definition} {whole start : List ℕ} {r : Run} 
               right = omega (arith, width-cons (defined 0 name value []) U, definition-size 0 name value []);
               cells = drop-at (take (to - size) l) tail (to - size) lo ∙ sym encoded;
               definitions =
-                  ap (λ (k : ℕ). record { name = name; content = macro (record { value = value; room = k }) } ∷ oldest (b + count U) (s .standing .definitions)) v
-                  ∙ ap (λ (t : List Definition). definitionOf name value [] ∷ t) (leftDefinitions a);
+                  ap (λ (k : ℕ). record { name = name; content = macro (record { value = value; room = k; locked = false }) } ∷ oldest (b + count U) (s .standing .definitions)) v
+                  ∙ ap (λ (t : List Definition). definitionOf 0 name value [] ∷ t) (leftDefinitions a);
               live = omega (arith, a .lies .stands .live, count-append (a .since) U);
             };
             read = a .lies .read;

@@ -66,7 +66,7 @@ module _ {n : ℕ} {older : List Definition} {whole start : List ℕ} {r : Run} 
         let x = readerIs in
         let c = at-cells holdsOf (x .at) in
         let z : length (drop (places n (length older) (h .frames) .offset) (x .value)) ≡ 0 = ap length (sym (x .rest) ∙ q) in
-        let valued : valueLength l (r .source .body) ≡ length (x .value) = ap (λ (k : ℕ). valueLength l k) bodyEq ∙ c .2 .cells .valued in
+        let valued : valueLength l (r .source .body) ≡ length (x .value) = ap (λ (k : ℕ). valueLength l k) bodyEq ∙ c .3 .cells .valued in
         rw (le-leb (valueLength l (r .source .body)) (r .source .offset)
         (omega (arith, offsetEq, valued, length-drop (places n (length older) (h .frames) .offset) (x .value))))
 
@@ -78,15 +78,15 @@ module _ {n : ℕ} {older : List Definition} {whole start : List ℕ} {r : Run} 
         let tail : drop k (v .value) ≡ x ∷ rest = sym (v .rest) ∙ q in
         let z : length (drop k (v .value)) ≡ suc (length rest) = ap length tail in
         let inside : k < length (v .value) = omega (arith, length-drop k (v .value)) in
-        let valued : valueLength l (r .source .body) ≡ length (v .value) = ap (λ (j : ℕ). valueLength l j) bodyEq ∙ c .2 .cells .valued in
-        let named : nameLength l (r .source .body) ≡ length (c .0) = ap (λ (j : ℕ). nameLength l j) bodyEq ∙ c .2 .cells .named in
+        let valued : valueLength l (r .source .body) ≡ length (v .value) = ap (λ (j : ℕ). valueLength l j) bodyEq ∙ c .3 .cells .valued in
+        let named : nameLength l (r .source .body) ≡ length (c .0) = ap (λ (j : ℕ). nameLength l j) bodyEq ∙ c .3 .cells .named in
         let zero′ : k + 0 ≡ k = omega arith in
         let byteIs : getD l (r .source .body + headSize + nameLength l (r .source .body) + r .source .offset) 0 ≡ x =
         ap (λ (j : ℕ). getD l (r .source .body + headSize + j + r .source .offset) 0) named
         ∙ ap (λ (j : ℕ). getD l (j + headSize + length (c .0) + r .source .offset) 0) bodyEq
         ∙ ap (λ (j : ℕ). getD l (places n (length older) (h .frames) .body + headSize + length (c .0) + j) 0) offsetEq
         ∙ sym (block-at (places n (length older) (h .frames) .body + headSize + length (c .0)) (length (v .value)) l k inside)
-        ∙ ap (λ (j : List ℕ). getD j k 0) (c .2 .cells .valueIs)
+        ∙ ap (λ (j : List ℕ). getD j k 0) (c .3 .cells .valueIs)
         ∙ ap (λ (j : ℕ). getD (v .value) j 0) (sym zero′)
         ∙ sym (getD-drop k (v .value) 0 0)
         ∙ ap (λ (j : List ℕ). getD j 0 0) tail in

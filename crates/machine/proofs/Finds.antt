@@ -6,7 +6,7 @@ use mathlib.Core.Bool.{Bool, true, false, cond, _||_}
 use mathlib.Core.List.{List, [], _∷_, _++_, append-assoc, append-nil}
 use lib.ListN.{length, take, drop, getD, length-append}
 use lib.Seq.{getD-drop, drop-drop, take-at, drop-at}
-use lib.Dec.{eqb, leb}
+use lib.Dec.{eqb, leb, ltb}
 use borrow.Author.Tests.{le-leb, lt-leb, eq-eqb, ne-eqb, eqb-true, eqb-false}
 use Rattle.language.specs.Expansion.{lent}
 use Rattle.language.specs.Signs.{Bytes}
@@ -16,9 +16,9 @@ use Rattle.language.specs.Charge.{argumentsPrice, listPrice}
 use Rattle.language.specs.Scanning.{Body, reading}
 use Rattle.memory.specs.Block.{block, same, sameBlocks}
 use Rattle.memory.proofs.Blocks.{ne-same, same-true, sameBlocks-in}
-use Rattle.machine.specs.Walks.{headSize, argumentsFrom, listOverhead, nameLength, room, valueLength, rightBefore, listLink, returnLink, nowhere, mark, packed, high, low, argument, size, newestFrom, newest, definitionsFrom, definitions, isReadFrom, isRead}
+use Rattle.machine.specs.Walks.{headSize, argumentsFrom, listOverhead, isLocked, nameLength, room, valueLength, rightBefore, listLink, returnLink, nowhere, mark, packed, high, low, argument, size, newestFrom, newest, definitionsFrom, definitions, isReadFrom, isRead}
 use Rattle.machine.proofs.Items.{list-size, definition-size, width-append, width-cons}
-use Rattle.machine.specs.Items.{Item, defined, listed, encodeArguments, encodeItem, encode, width, definitionOf, definitionsOf, count, Definitions}
+use Rattle.machine.specs.Items.{Item, defined, listed, encodeArguments, encodeItem, encode, width, macroOf, definitionOf, definitionsOf, count, Definitions}
 use Rattle.machine.specs.Frames.{Frame, made, collects, reads, address, At, here, there, listItem, laid, items, places, bodies, Valid}
 use Rattle.machine.specs.Held.{definitionAt, definitionsHeldFrom, definitionsHeld}
 use Rattle.machine.proofs.Lists.{packed-low, packed-high}
@@ -116,18 +116,19 @@ unfolding encode
 drop-item l p i its rest e =
     drop-past l (encodeItem i) (encode its ++ rest) p (length (encodeItem i)) (e ∙ append-assoc (encodeItem i) (encode its) rest) refl
 
--- the cells of a definition: the lengths of name, room and value, then name and value
-pub record DefinitionAt (l : List ℕ) (d : ℕ) (name value : Bytes) (lent : ℕ) : Type 0 where
+-- the cells of a definition: its lock, the lengths of name, room and value, then name and value
+pub record DefinitionAt (l : List ℕ) (d : ℕ) (name : Bytes) (c : Macro) : Type 0 where
+  pub locking : isLocked l d ≡ c .locked
   pub named : nameLength l d ≡ length name
-  pub roomy : room l d ≡ lent
-  pub valued : valueLength l d ≡ length value
-  pub fits : length value ≤ lent
+  pub roomy : room l d ≡ c .room
+  pub valued : valueLength l d ≡ length (c .value)
+  pub fits : length (c .value) ≤ c .room
   pub nameIs : block (d + headSize) (length name) l ≡ name
-  pub valueIs : block (d + headSize + length name) (length value) l ≡ value
+  pub valueIs : block (d + headSize + length name) (length (c .value)) l ≡ c .value
 
 -- a definition among items has these cells
 pub definition-at : (l : List ℕ) (p f : ℕ) (name value spare : Bytes) (its : List Item) (rest : List ℕ)
-    → drop p l ≡ encode (defined f name value spare ∷ its) ++ rest → DefinitionAt l p name value (length value + length spare)
+    → drop p l ≡ encode (defined f name value spare ∷ its) ++ rest → DefinitionAt l p name (macroOf f value spare)
 unfolding encode
 definition-at l p f name value spare its rest e =
     let head : List ℕ = f ∷ length name ∷ (length value + length spare) ∷ length value ∷ [] in
@@ -136,6 +137,7 @@ definition-at l p f name value spare its rest e =
     let w : drop (p + headSize + length name) l ≡ value ++ (spare ++ (encode its ++ rest)) =
     drop-past l name (value ++ (spare ++ (encode its ++ rest))) (p + headSize) (length name) g refl in
     record {
+      locking = ap (ltb 0) (head-at l (head ++ (name ++ (value ++ (spare ++ (encode its ++ rest))))) p s);
       named = cell-at l (head ++ (name ++ (value ++ (spare ++ (encode its ++ rest))))) p 1 s;
       roomy = cell-at l (head ++ (name ++ (value ++ (spare ++ (encode its ++ rest))))) p 2 s;
       valued = cell-at l (head ++ (name ++ (value ++ (spare ++ (encode its ++ rest))))) p 3 s;
@@ -245,21 +247,21 @@ module _ {n base : ℕ} where
       go false e = sym (ne-eqb k′ k (λ q. eqb-false d d′ e (at-same h a a′ .1 (sym q))))
 
 -- a definition among the items that stand from `right` on: its cells lie within theirs
-pub record Defines (n base : ℕ) (l : List ℕ) (right : ℕ) (its : List Item) (d k : ℕ) (name value : Bytes) (room : ℕ) : Type 0 where
-  pub at : At n base its d k value
-  pub cells : DefinitionAt l d name value room
+pub record Defines (n base : ℕ) (l : List ℕ) (right : ℕ) (its : List Item) (d k : ℕ) (name : Bytes) (c : Macro) : Type 0 where
+  pub at : At n base its d k (c .value)
+  pub cells : DefinitionAt l d name c
   pub from : right ≤ d
-  pub within : d + headSize + length name + room ≤ n
+  pub within : d + headSize + length name + c .room ≤ n
   pub below : d < nowhere
 
 -- one that stands among older items
-defines-there : {n base : ℕ} {l : List ℕ} {p q : ℕ} {i : Item} {its : List Item} {d k : ℕ} {name value : Bytes} {room : ℕ} → p ≤ q
-    → Defines n base l q its d k name value room → Defines n base l p (i ∷ its) d k name value room
+defines-there : {n base : ℕ} {l : List ℕ} {p q : ℕ} {i : Item} {its : List Item} {d k : ℕ} {name : Bytes} {c : Macro} → p ≤ q
+    → Defines n base l q its d k name c → Defines n base l p (i ∷ its) d k name c
 defines-there h c = record { at = there (c .at); cells = c .cells; from = omega (arith, c .from); within = c .within; below = c .below }
 
 -- the first of the items, where it is a definition
 defines-here : {n base : ℕ} {l : List ℕ} {p f : ℕ} {name value spare : Bytes} {its : List Item} → HoldsItems n l p (defined f name value spare ∷ its)
-    → Defines n base l p (defined f name value spare ∷ its) p (base + count its) name value (length value + length spare)
+    → Defines n base l p (defined f name value spare ∷ its) p (base + count its) name (macroOf f value spare)
 defines-here {n} {base} {l} {p} {f} {name} {value} {spare} {its} h =
     let w = width-cons (defined f name value spare) its in
     let z = definition-size f name value spare in
@@ -268,11 +270,11 @@ defines-here {n} {base} {l} {p} {f} {name} {value} {spare} {its} h =
 
 -- the cells of any definition among the items
 pub at-cells : {n base : ℕ} {l : List ℕ} {p : ℕ} {its : List Item} {d k : ℕ} {v : Bytes} → HoldsItems n l p its → At n base its d k v
-    → (name : Bytes) × (room : ℕ) × Defines n base l p its d k name v room
-at-cells {p = p} h (here {name = name} {value = value} {spare = spare} {d = d} e q) =
+    → (name : Bytes) × (room : ℕ) × (locked : Bool) × Defines n base l p its d k name (record { value = v; room = room; locked = locked })
+at-cells {p = p} h (here {f = f} {name = name} {value = value} {spare = spare} {d = d} e q) =
     let x : d ≡ p = omega (arith, h .ends) in
-    (name, length value + length spare, rw (x, q) (defines-here h))
-at-cells h (there {i} a) = let r = at-cells (holds-rest h) a in (r .0, r .1, defines-there (omega arith) (r .2))
+    (name, length value + length spare, ltb 0 f, rw (x, q) (defines-here h))
+at-cells h (there {i} a) = let r = at-cells (holds-rest h) a in (r .0, r .1, r .2, defines-there (omega arith) (r .3))
 
 -- The lists of the bodies --------------------------------------------------------------------------------------------
 
@@ -430,7 +432,7 @@ same-turned (x ∷ a) (y ∷ b) = rw (equal-turned x y, same-turned a b)
 -- nothing has the name, or the definition at x is the newest that has it
 pub data Newest (n base : ℕ) (l : List ℕ) (right : ℕ) (its : List Item) (t : Bytes) (x : ℕ) : Type 0 where
   absent : x ≡ nowhere → ((older : List Definition) → D.newest t (definitionsOf its ++ older) ≡ D.newest t older) → Newest n base l right its t x
-  present : {k : ℕ} {c : Macro} → Defines n base l right its x k t (c .value) (c .room)
+  present : {k : ℕ} {c : Macro} → Defines n base l right its x k t c
       → ((older : List Definition) → length older ≡ base → D.newest t (definitionsOf its ++ older) ≡ found k (macro c))
       → Newest n base l right its t x
 
@@ -452,10 +454,10 @@ newest-other h s (present {c = m} c f) = present {c = m} (defines-there h c) (λ
 newest-here : {n base : ℕ} {l : List ℕ} {p : ℕ} {its : List Item} {t : Bytes} {f : ℕ} {name value spare : Bytes} → D.same t name ≡ true
     → HoldsItems n l p (defined f name value spare ∷ its) → Newest n base l p (defined f name value spare ∷ its) t p
 unfolding definitionsOf D.newest
-newest-here {base = base} {its = its} {t = t} {name = name} {value = value} {spare = spare} s h =
+newest-here {base = base} {its = its} {t = t} {f = f} {name = name} {value = value} {spare = spare} s h =
     let q : name ≡ t = same-true name t (same-turned name t ∙ s) in
     let c = defines-here {base = base} h in
-    present {c = record { value = value; room = length value + length spare }}
+    present {c = macroOf f value spare}
     (record { at = c .at; cells = rw q at (c .cells); from = c .from; within = rw q at (c .within); below = c .below })
     (λ older b.
     let e : length (definitionsOf its ++ older) ≡ base + count its = omega (arith, length-append (definitionsOf its) older) in
@@ -477,7 +479,7 @@ module _ {n : ℕ} {l : List ℕ} (name : ℕ) (t : Bytes) (is : block (name + 1
       → cond (eqb (nameLength l p) (length t)) (sameBlocks (p + headSize) (name + 1) (length t) l) false ≡ D.same t own
   named-test {p} {f} {own} {value} {spare} {its} h = rw (c .named) (go (eqb (length own) (length t)) refl)
     where
-      c : DefinitionAt l p own value (length value + length spare)
+      c : DefinitionAt l p own (macroOf f value spare)
       c = definition-at l p f own value spare its [] (held h)
 
       go : (x : Bool) → eqb (length own) (length t) ≡ x → cond x (sameBlocks (p + headSize) (name + 1) (length t) l) false ≡ D.same t own
@@ -516,10 +518,10 @@ module _ {n : ℕ} {l : List ℕ} (name : ℕ) (t : Bytes) (is : block (name + 1
 
 -- a definition among items is read as it is
 definition-read : (l : List ℕ) (p f : ℕ) (name value spare : Bytes) (its : List Item) (rest : List ℕ)
-    → drop p l ≡ encode (defined f name value spare ∷ its) ++ rest → definitionAt l p ≡ definitionOf name value spare
+    → drop p l ≡ encode (defined f name value spare ∷ its) ++ rest → definitionAt l p ≡ definitionOf f name value spare
 definition-read l p f name value spare its rest e =
     let d = definition-at l p f name value spare its rest e in
-    rw (d .named, d .valued, d .roomy, d .nameIs, d .valueIs)
+    rw (d .locking, d .named, d .valued, d .roomy, d .nameIs, d .valueIs)
 
 -- the walk reads the definitions of the items, given turns enough
 held-in : {n base : ℕ} {l : List ℕ} (turns : ℕ) {p : ℕ} {its : List Item} {list body : ℕ} {ks : List ℕ} → Chain n base its list body ks → HoldsItems n l p its

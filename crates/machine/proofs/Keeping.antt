@@ -9,7 +9,7 @@ use lib.Dec.{eqb, leb, ltb}
 use borrow.Author.Needs.{needs}
 use borrow.Author.Tests.{ltb-false, leb-false, eqb-false}
 use Rattle.language.specs.declared.built_ins.BuiltIn.{BuiltIn}
-use Rattle.language.specs.declared.built_ins.BuiltIn.the-variants.{Def, Val, Update, Arithmetic, Seq, Size, If}
+use Rattle.language.specs.declared.built_ins.BuiltIn.the-variants.{Def, Val, Update, Arithmetic, Seq, Size, If, Lock}
 use Rattle.language.specs.Signs.{cellsLimit}
 use Rattle.language.specs.Outcomes
 use Rattle.language.specs.BuiltIns as B
@@ -22,7 +22,7 @@ use Rattle.machine.specs.declared.operands.Named.the-variants.{Known, Un
 use Rattle.machine.specs.declared.run.Run.{Run}
 use Rattle.machine.specs.declared.run.Answer.{Answer}
 use Rattle.machine.specs.declared.run.Answer.the-variants.{GoesOn, Ended, Damaged, Refused}
-use Rattle.machine.specs.Walks.{nowhere, mark, cell, headSize, argumentsFrom, listOverhead, valueLength, room, rightBefore, listLink, returnLink, high, argument, chosen, newest, definitions, isRead, builtInNamed, compare, calculate}
+use Rattle.machine.specs.Walks.{nowhere, mark, cell, headSize, argumentsFrom, listOverhead, isLocked, valueLength, room, rightBefore, listLink, returnLink, high, argument, chosen, newest, definitions, isRead, builtInNamed, compare, calculate}
 use Rattle.machine.specs.Machine as M
 use Rattle.machine.specs.Machine.{After, Sound, Ready, InRange, Resulting, Marked}
 use Rattle.machine.proofs.Bodies.{inside}
@@ -200,12 +200,20 @@ module _ (m : Lent) where
           let d = newest l (r .right) (r .source .list) name in
           choose (eqb d nowhere) (λ t. refuseKept name) (λ t. placingKept _ _ (giveKept (valueLength l d)))
 
+      -- the call ends, whatever the cells then hold
+      alteredKept : {m′ : Lent} → Kept n k (r .counts .scans) (record { run = M.release r 0 m .run; answer = M.release r 0 m .answer; lent = m′ })
+      alteredKept = let t = releaseKept r 0 s w in record { kept = t .kept; counted = t .counted; told = t .told }
+
       updateKept : (name value : ℕ) → Kept n k (r .counts .scans) (M.update r name value m)
       updateKept name value =
           let d = newest l (r .right) (r .source .list) name in
           choose (eqb d nowhere) (λ t. refuseKept name)
+          (λ t. choose (isLocked l d) (λ t. ends)
           (λ t. choose (isRead l (r .source .list) (r .source .body) d) (λ t. ends)
-          (λ t. choose (ltb (room l d) (getD l value 0)) (λ t. ends) (λ t. record { kept = releaseKept r 0 s w .kept; counted = releaseKept r 0 s w .counted; told = releaseKept r 0 s w .told })))
+          (λ t. choose (ltb (room l d) (getD l value 0)) (λ t. ends) (λ t. alteredKept))))
+
+      lockKept : (name : ℕ) → Kept n k (r .counts .scans) (M.lock r name m)
+      lockKept name = choose (eqb (newest l (r .right) (r .source .list) name) nowhere) (λ t. refuseKept name) (λ t. alteredKept)
 
       answerKept : (a : Arithmetical.Answer) → Kept n k (r .counts .scans) (M.giveAnswer r a m)
       answerKept a = choose (eqb (a .outcome) Outcomes.finished) (λ t. placingKept _ _ (giveKept (a .decimal .len))) (λ t. ends)
@@ -232,6 +240,7 @@ module _ (m : Lent) where
       performKept Seq name = countKept (compare l (argument l name 1) (argument l name 2))
       performKept Size name = countKept (getD l (argument l name 1) 0)
       performKept If name = chooseKept name
+      performKept Lock name = lockKept (argument l name 1)
 
       builtInKept : (name : ℕ) → Kept n k (r .counts .scans) (M.applyBuiltIn r name m)
       builtInKept name = go (builtInNamed l name)

@@ -13,7 +13,7 @@ use denote.Enum.Declared.{tagOf}
 use Rattle.decimal.specs.declared.operations.Operation.{Operation}
 use Rattle.decimal.specs.declared.operations.Answer as Arithmetical
 use Rattle.language.specs.declared.built_ins.BuiltIn.{BuiltIn}
-use Rattle.language.specs.declared.built_ins.BuiltIn.the-variants.{Def, Val, Update, Arithmetic, Seq, Size, If}
+use Rattle.language.specs.declared.built_ins.BuiltIn.the-variants.{Def, Val, Update, Arithmetic, Seq, Size, If, Lock}
 use Rattle.language.specs.Outcomes
 use Rattle.language.specs.BuiltIns.{needs}
 use Rattle.language.specs.Expansion.{Lent}
@@ -85,6 +85,7 @@ few (Arithmetic op) = omega arith
 few Seq = omega arith
 few Size = omega arith
 few If = omega arith
+few Lock = omega arith
 
 -- a standing in which a definition can be put
 pub record Roomy (r : Run) : Type 0 where

@@ -2,7 +2,7 @@
 use Prim.Native.Nat.{ℕ, _+_, _≤_, _<_}
 use native.Mathlib.Omega.{arith}
 use mathlib.Core.Path.{_≡_, refl, sym, ap, subst, _∙_}
-use mathlib.Core.Bool.{Bool, true, false, cond}
+use mathlib.Core.Bool.{Bool, true, false, cond, true≢false}
 use mathlib.Core.List.{List, [], _∷_, _++_, append-nil}
 use lib.ListN.{length, drop, getD, length-append}
 use lib.Seq.{drop-drop, drop-at}
@@ -17,10 +17,10 @@ use Rattle.decimal.proofs.Texts.{digits-room, filled-text, filled-length}
 use Rattle.language.specs.Outcomes
 use Rattle.language.specs.Signs.{Bytes, ascii}
 use Rattle.language.specs.declared.built_ins.BuiltIn.{BuiltIn}
-use Rattle.language.specs.declared.built_ins.BuiltIn.the-variants.{Def, Val, Update, Arithmetic, Seq, Size, If}
-use Rattle.language.specs.Definitions.{macro, builtIn, Definition, Found, found, missing, altered, oldest, among}
+use Rattle.language.specs.declared.built_ins.BuiltIn.the-variants.{Def, Val, Update, Arithmetic, Seq, Size, If, Lock}
+use Rattle.language.specs.Definitions.{macro, builtIn, Definition, Found, found, missing, Change, updates, locks, altered, oldest, among}
 use Rattle.language.specs.Definitions as D
-use Rattle.language.specs.BuiltIns.{builtIns, Deed, reads, defines, gives, alters, faulty, deed, deedOf, performed, definitionBy, valueOf, updateOf, resultOf, compared, parameter, needs}
+use Rattle.language.specs.BuiltIns.{builtIns, Deed, reads, defines, gives, alters, faulty, deed, deedOf, performed, definitionBy, valueOf, updateOf, resultOf, compared, lockOf, parameter, needs}
 use Rattle.language.specs.BuiltIns as B
 use Rattle.language.specs.Charge.{argumentsPrice}
 use Rattle.language.specs.Matched.{All, empty, with}
@@ -33,21 +33,21 @@ use Rattle.language.proofs.Demand.{builtIns-free}
 use Rattle.memory.specs.Block.{block, placed, moved, copied, lowBytes}
 use Rattle.memory.proofs.Blocks.{moved-in, copied-in, length-lowBytes}
 use Rattle.machine.specs.declared.run.Run.{Run}
-use Rattle.machine.specs.Walks.{nowhere, headSize, nameLength, argument, chosen, newest, isRead, compare, calculate, room, withValueLength}
+use Rattle.machine.specs.Walks.{nowhere, headSize, nameLength, argument, chosen, newest, isRead, compare, calculate, isLocked, withLock, room, withValueLength}
 use Rattle.machine.specs.Machine as M
 use Rattle.machine.proofs.Items.{encode-append, width-append}
 use Rattle.machine.proofs.Moves.{madeAll, madeLaid, madeBodies, madeValid}
 use Rattle.machine.proofs.Represents.{Simulates, goes, outputSize}
 use Rattle.machine.proofs.Finds.{HoldsItems, Defines, DefinitionAt, definition-at, ArgumentAt, argument-at, argument-past, Newest, absent, present, newest-finds, isRead-finds}
 use Rattle.machine.proofs.Fetching.{block-low, each}
-use Rattle.machine.proofs.Altering.{alter, alterItems, alter-append, alter-width, alter-count, alterLaid, alterLefts, alterCalls, alterBodies, alterValid, Spot, spotOf, stored, alterDefinitions, alterSize, alterHigh, alterLow}
+use Rattle.machine.proofs.Altering.{alter, alterItems, alter-append, alter-width, alter-count, alterLaid, alterLefts, alterCalls, alterBodies, KeepsRead, alterValid, Spot, spotOf, stored, Fits, alterDefinitions, Alters, updateAlters, lockAlters, alterSize, alterHigh, alterLow}
 use Rattle.machine.proofs.Naming.{TextAt, argument-text, namedOf, Own, unknown, known, builtIns-only, builtInNamed-is, calculate-is, answer-refused}
 use Rattle.machine.proofs.Words.{compare-is, Picked, nothing, picked, chosen-at}
 use Rattle.machine.proofs.Applying.{Applied, listOf}
 use Rattle.machine.proofs.Calling.{argumentsAt, linksIs, rightTo, toAbove, freed, releaseIs, oldest-items, begun, movedIs}
 use Rattle.machine.proofs.Giving.{refused as refusing, giveSim}
 use Rattle.machine.proofs.Defining.{defSim}
-use Rattle.machine.specs.Items.{Item, defined, width, encode, definitionsOf, count}
+use Rattle.machine.specs.Items.{Item, defined, macroOf, width, encode, definitionsOf, count}
 use Rattle.machine.specs.Frames.{Places, Frame, address, At, items, places, calls, bodies, Valid}
 
 -- a value that is found is of bytes
@@ -155,9 +155,9 @@ module _ {n : ℕ} {whole start : List ℕ} {r : Run} {l o : List ℕ} {s : Stat
 
   -- A body is read ---------------------------------------------------------------------------------------------------
 
-  readSim : (d k room : ℕ) (v : Bytes) → Defines n b l (r .right) its d k (parameter 0 list) v room
-      → Simulates n builtIns whole start (M.readBody r d (lent l o)) (S.perform (limitsOf n (length start)) (reads k v) c cs s)
-  readSim d k room v D = rw (linksIs a, movedIs a d k v (D .at)) (goes refl (begun a d k v (D .at) named))
+  readSim : (d k : ℕ) (m : D.Macro) → Defines n b l (r .right) its d k (parameter 0 list) m
+      → Simulates n builtIns whole start (M.readBody r d (lent l o)) (S.perform (limitsOf n (length start)) (reads k (m .value)) c cs s)
+  readSim d k m D = let v = m .value in rw (linksIs a, movedIs a d k v (D .at)) (goes refl (begun a d k v (D .at) named))
 
   -- Results ----------------------------------------------------------------------------------------------------------
 
@@ -239,24 +239,68 @@ module _ {n : ℕ} {whole start : List ℕ} {r : Run} {l o : List ℕ} {s : Stat
           rw (ne-eqb d nowhere (λ (e : d ≡ nowhere). absurd (omega (arith, at .below))), g, at .cells .named, at .cells .valued)
           (blockSim from v fit (at .cells .valueIs) vo)
 
-  -- UPDATE -----------------------------------------------------------------------------------------------------------
+  -- UPDATE and LOCK --------------------------------------------------------------------------------------------------
+
+  -- the items that a name is looked up among
+  holdsIts : HoldsItems n l (r .right) its
+  holdsIts = record { size = a .lies .stands .size; cellsLent = a .cellsLent; ends = a .lies .stands .right; cells = a .lies .stands .cells }
 
   -- the cells of a definition, by where it stands among the items
-  spotCells : (d k : ℕ) (v : Bytes) (spot : Spot n b its d k v) → DefinitionAt l d (spot .name) v (length v + length (spot .spare))
+  spotCells : (d k : ℕ) (v : Bytes) (spot : Spot n b its d k v) → DefinitionAt l d (spot .name) (macroOf (spot .lock) v (spot .spare))
   spotCells d k v spot =
-      let I = defined (spot .free) (spot .name) v (spot .spare) in
+      let I = defined (spot .lock) (spot .name) v (spot .spare) in
       let w = width-append (spot .newer) (I ∷ spot .older) in
       let x : width its ≡ width (spot .newer ++ (I ∷ spot .older)) = ap width (spot .is) in
       let e : d ≡ r .right + width (spot .newer) = omega (arith, spot .at, a .lies .stands .right) in
-      definition-at l d (spot .free) (spot .name) v (spot .spare) (spot .older) []
+      definition-at l d (spot .lock) (spot .name) v (spot .spare) (spot .older) []
       (ap (λ (j : ℕ). drop j l) e
       ∙ sym (drop-drop (width (spot .newer)) (r .right) l)
       ∙ ap (drop (width (spot .newer))) (a .lies .stands .cells ∙ ap encode (spot .is) ∙ encode-append (spot .newer) (I ∷ spot .older))
       ∙ drop-at (encode (spot .newer)) (encode (I ∷ spot .older)) (width (spot .newer)) refl
       ∙ sym (append-nil (encode (I ∷ spot .older))))
 
-  -- the value where the definition stands, and the list gone
-  storeSim : (d k room : ℕ) (t w v : Bytes) (y : ℕ) → Defines n b l (r .right) its d k t v room → TextAt l y w → length w ≤ room
+  -- a definition is changed where it stands, and the list goes
+  alterSim : (d k : ℕ) (v : Bytes) (spot : Spot n b its d k v) (h : Change) → Fits h (length v + length (spot .spare))
+      → KeepsRead n b k h (S.reading (s .bodies)) → (l′ : List ℕ) → Alters k h b its (r .right) l l′
+      → Simulates n builtIns whole start
+      (record { run = (M.release r 0 (lent l o)) .run; answer = (M.release r 0 (lent l o)) .answer; lent = lent l′ o })
+      (next (S.withCalls cs (S.withDefinitions (oldest (b + count U) (altered k h (s .standing .definitions))) s)))
+  alterSim d k v spot h fit kept l′ cellsEq =
+      let fs′ = alter n b k h (a .under) in
+      let A = alterItems k h (b + count U) (a .since) in
+      let K = alterItems k h b U in
+      let splitEq : alterItems k h b its ≡ A ++ K = alter-append k h b (a .since) U in
+      let high′ : drop (r .right) l′ ≡ encode A ++ encode K = alterHigh holdsIts cellsEq ∙ ap encode splitEq ∙ encode-append A K in
+      let widthA : width A ≡ width (a .since) = alter-width k h (b + count U) (a .since) in
+      let toEq : r .right + width A ≡ address n U = omega (arith, rightTo a) in
+      let hi : drop (address n U) l′ ≡ encode K =
+      ap (λ (j : ℕ). drop j l′) (sym toEq)
+      ∙ sym (drop-drop (width A) (r .right) l′)
+      ∙ ap (drop (width A)) high′
+      ∙ drop-at (encode A) (encode K) (width A) refl in
+      let al = alterLaid n b k h (a .under) in
+      let kept₂ : KeepsRead n b k h (S.reading (bodies n b (a .under))) = subst (λ (j : List Body). KeepsRead n b k h (S.reading j)) (a .bodiesAre) kept in
+      let ds : oldest (b + count U) (altered k h (s .standing .definitions)) ≡ definitionsOf K ++ builtIns =
+      ap (λ (j : List Definition). oldest (b + count U) (altered k h j)) definitionsAre
+      ∙ ap (oldest (b + count U)) (sym (alterDefinitions spot h fit builtIns refl) ∙ ap (λ (j : List Item). definitionsOf j ++ builtIns) splitEq)
+      ∙ ap (λ (j : ℕ). oldest (b + j) (definitionsOf (A ++ K) ++ builtIns)) (sym (alter-count k h b U))
+      ∙ oldest-items A K builtIns in
+      let e = toAbove a in
+      let rel = releaseIs a r 0 o refl refl refl in
+      rw rel
+      (goes refl
+      (freed a fs′ l′ (oldest (b + count U) (altered k h (s .standing .definitions)))
+      (alterValid n b k h (a .under) kept₂ (a .valid))
+      (al .1) (alterLefts n b k h (a .under)) (alterCalls n b k h (a .under)) (alterBodies n b k h (a .under))
+      (alterSize holdsIts cellsEq)
+      (alterLow holdsIts cellsEq (r .calls .call) (omega (arith, a .leftIs, a .room)))
+      (ap width (al .0) ∙ alter-width k h b U)
+      (hi ∙ ap encode (sym (al .0)))
+      (ds ∙ ap (λ (j : List Item). definitionsOf j ++ builtIns) (sym (al .0)))
+      (ap count (al .0) ∙ alter-count k h b U)))
+
+  -- the value where the definition stands
+  storeSim : (d k : ℕ) (m : D.Macro) (t w : Bytes) (y : ℕ) → Defines n b l (r .right) its d k t m → TextAt l y w → length w ≤ m .room
       → among k (S.reading (s .bodies)) ≡ false
       → Simulates n builtIns whole start
       (record {
@@ -264,53 +308,28 @@ module _ {n : ℕ} {whole start : List ℕ} {r : Run} {l o : List ℕ} {s : Stat
         answer = (M.release r 0 (lent l o)) .answer;
         lent = lent (withValueLength (moved (y + 1) (d + headSize + nameLength l d) (getD l y 0) l) d (getD l y 0)) o;
       })
-      (next (S.withCalls cs (S.withDefinitions (oldest (b + count U) (altered k w (s .standing .definitions))) s)))
-  storeSim d k room t w v y at x fits quiet =
+      (S.perform (limitsOf n (length start)) (alters k (updates w)) c cs s)
+  storeSim d k m t w y at x fits quiet =
+      let v = m .value in
       let spot = spotOf (at .at) in
       let own = spotCells d k v spot in
-      let roomEq : room ≡ length v + length (spot .spare) = sym (at .cells .roomy) ∙ own .roomy in
+      let roomEq : m .room ≡ length v + length (spot .spare) = sym (at .cells .roomy) ∙ own .roomy in
       let fit : length w ≤ length v + length (spot .spare) = omega arith in
       let nameEq : length (spot .name) ≡ length t = sym (own .named) ∙ at .cells .named in
       let target = d + headSize + length (spot .name) in
-      let l′ = stored d (spot .name) w l in
-      let cellsEq : withValueLength (moved (y + 1) (d + headSize + nameLength l d) (getD l y 0) l) d (getD l y 0) ≡ l′ =
+      let cellsEq : withValueLength (moved (y + 1) (d + headSize + nameLength l d) (getD l y 0) l) d (getD l y 0) ≡ stored d (spot .name) w l =
       ap (λ (j : ℕ). withValueLength (moved (y + 1) (d + headSize + nameLength l d) j l) d j) (x .counted)
       ∙ ap (λ (j : ℕ). withValueLength (moved (y + 1) (d + headSize + j) (length w) l) d (length w)) (at .cells .named ∙ sym nameEq)
       ∙ ap (λ (j : List ℕ). withValueLength j d (length w))
       (moved-in (y + 1) target (length w) l (x .within) (omega (arith, at .within, a .lies .stands .size)) ∙ ap (λ (j : List ℕ). placed target j l) (x .bytes)) in
-      let fs′ = alter n b k w (a .under) in
-      let A = alterItems k w (b + count U) (a .since) in
-      let K = alterItems k w b U in
-      let splitEq : alterItems k w b its ≡ A ++ K = alter-append k w b (a .since) U in
-      let high′ : drop (r .right) l′ ≡ encode A ++ encode K =
-      alterHigh spot w fit (r .right) l (a .lies .stands .size) (a .lies .stands .right) (a .lies .stands .cells) ∙ ap encode splitEq ∙ encode-append A K in
-      let widthA : width A ≡ width (a .since) = alter-width k w (b + count U) (a .since) in
-      let toEq : r .right + width A ≡ address n U = omega (arith, rightTo a) in
-      let hi : drop (address n U) l′ ≡ encode K =
-      ap (λ (j : ℕ). drop j l′) (sym toEq)
-      ∙ sym (drop-drop (width A) (r .right) l′)
-      ∙ ap (drop (width A)) high′
-      ∙ drop-at (encode A) (encode K) (width A) refl in
-      let al = alterLaid n b k w (a .under) in
-      let quiet₂ : among k (S.reading (bodies n b (a .under))) ≡ false = ap (λ (j : List Body). among k (S.reading j)) (sym (a .bodiesAre)) ∙ quiet in
-      let ds : oldest (b + count U) (altered k w (s .standing .definitions)) ≡ definitionsOf K ++ builtIns =
-      ap (λ (j : List Definition). oldest (b + count U) (altered k w j)) definitionsAre
-      ∙ ap (oldest (b + count U)) (sym (alterDefinitions spot w fit builtIns refl) ∙ ap (λ (j : List Item). definitionsOf j ++ builtIns) splitEq)
-      ∙ ap (λ (j : ℕ). oldest (b + j) (definitionsOf (A ++ K) ++ builtIns)) (sym (alter-count k w b U))
-      ∙ oldest-items A K builtIns in
-      let e = toAbove a in
-      let rel = releaseIs a r 0 o refl refl refl in
-      rw (cellsEq, rel)
-      (goes refl
-      (freed a fs′ l′ (oldest (b + count U) (altered k w (s .standing .definitions)))
-      (alterValid n b k w (a .under) quiet₂ (a .valid))
-      (al .1) (alterLefts n b k w (a .under)) (alterCalls n b k w (a .under)) (alterBodies n b k w (a .under))
-      (alterSize spot w fit (r .right) l (a .lies .stands .size) (a .lies .stands .right) (a .lies .stands .cells))
-      (alterLow spot w fit (r .right) l (a .lies .stands .size) (a .lies .stands .right) (a .lies .stands .cells) (r .calls .call) (omega (arith, a .leftIs, a .room)))
-      (ap width (al .0) ∙ alter-width k w b U)
-      (hi ∙ ap encode (sym (al .0)))
-      (ds ∙ ap (λ (j : List Item). definitionsOf j ++ builtIns) (sym (al .0)))
-      (ap count (al .0) ∙ alter-count k w b U)))
+      rw cellsEq (alterSim d k v spot (updates w) fit (λ e. absurd (true≢false (sym e ∙ quiet))) (stored d (spot .name) w l) (updateAlters spot holdsIts w fit))
+
+  -- the mark where it stands, its body being read or not
+  markSim : (d k : ℕ) (m : D.Macro) (t : Bytes) → Defines n b l (r .right) its d k t m
+      → Simulates n builtIns whole start (M.lockIn r d (lent l o)) (S.perform (limitsOf n (length start)) (alters k locks) c cs s)
+  markSim d k m t at =
+      let spot = spotOf (at .at) in
+      alterSim d k (m .value) spot locks tt (λ e value spare. refl) (withLock l d) (lockAlters spot holdsIts)
 
   updateSim : (long : 2 < length list)
       → Simulates n builtIns whole start (M.update r (argument l name 1) (argument l name 2) (lent l o))
@@ -347,23 +366,55 @@ module _ {n : ℕ} {whole start : List ℕ} {r : Run} {l o : List ℕ} {s : Stat
           rw (e, g) (refuseSim q t x (D.newest t builtIns) (builtIns-only t) refl (updateOf busy w) refl (λ k bi. refl))
       go d (present {k} {c = m} at f) =
           let g : D.newest t (s .standing .definitions) ≡ found k (macro m) = ap (D.newest t) definitionsAre ∙ f builtIns refl in
-          rw (ne-eqb d nowhere (λ (e : d ≡ nowhere). absurd (omega (arith, at .below))), g, readEq d k (m .value) (at .at)) (quiet (among k busy) refl)
+          rw (ne-eqb d nowhere (λ (e : d ≡ nowhere). absurd (omega (arith, at .below))), g, at .cells .locking, readEq d k (m .value) (at .at)) (unlocked (m .locked))
         where
           fits : (z : Bool) → ltb (m .room) (length w) ≡ z → among k busy ≡ false
               → Simulates n builtIns whole start (M.updateIn r (argument l name 2) d (lent l o))
-              (S.perform (limitsOf n (length start)) (cond z (faulty Outcomes.updateTooLong) (alters k w)) c cs s)
+              (S.perform (limitsOf n (length start)) (cond z (faulty Outcomes.updateTooLong) (alters k (updates w))) c cs s)
           fits true e h =
               let test : ltb (room l d) (getD l (argument l name 2) 0) ≡ true = ap (λ (j : ℕ). ltb j (getD l (argument l name 2) 0)) (at .cells .roomy) ∙ ap (ltb (m .room)) (y .counted) ∙ e in
               rw test (refusing builtIns-free a Outcomes.updateTooLong)
           fits false e h =
               let test : ltb (room l d) (getD l (argument l name 2) 0) ≡ false = ap (λ (j : ℕ). ltb j (getD l (argument l name 2) 0)) (at .cells .roomy) ∙ ap (ltb (m .room)) (y .counted) ∙ e in
-              rw test (storeSim d k (m .room) t w (m .value) (argument l name 2) at y (ltb-false (m .room) (length w) e) h)
+              rw test (storeSim d k m t w (argument l name 2) at y (ltb-false (m .room) (length w) e) h)
 
           quiet : (z : Bool) → among k busy ≡ z
               → Simulates n builtIns whole start (cond z (M.ends Outcomes.bodyBeingRead r (lent l o)) (M.updateIn r (argument l name 2) d (lent l o)))
-              (S.perform (limitsOf n (length start)) (cond z (faulty Outcomes.bodyBeingRead) (cond (ltb (m .room) (length w)) (faulty Outcomes.updateTooLong) (alters k w))) c cs s)
+              (S.perform (limitsOf n (length start)) (cond z (faulty Outcomes.bodyBeingRead) (cond (ltb (m .room) (length w)) (faulty Outcomes.updateTooLong) (alters k (updates w)))) c cs s)
           quiet true e = refusing builtIns-free a Outcomes.bodyBeingRead
           quiet false e = fits (ltb (m .room) (length w)) refl e
+
+          unlocked : (z : Bool)
+              → Simulates n builtIns whole start
+              (cond z (M.ends Outcomes.locked r (lent l o)) (cond (among k busy) (M.ends Outcomes.bodyBeingRead r (lent l o)) (M.updateIn r (argument l name 2) d (lent l o))))
+              (S.perform (limitsOf n (length start))
+              (cond z (faulty Outcomes.locked)
+              (cond (among k busy) (faulty Outcomes.bodyBeingRead) (cond (ltb (m .room) (length w)) (faulty Outcomes.updateTooLong) (alters k (updates w))))) c cs s)
+          unlocked true = refusing builtIns-free a Outcomes.locked
+          unlocked false = quiet (among k busy) refl
+
+  lockSim : (long : 1 < length list)
+      → Simulates n builtIns whole start (M.lock r (argument l name 1) (lent l o))
+      (S.perform (limitsOf n (length start)) (lockOf (D.newest (parameter 1 list) (s .standing .definitions))) c cs s)
+  lockSim long = go (newest l (r .right) (r .source .list) q) (found′ q t x)
+    where
+      q : ℕ
+      q = argument l name 1
+
+      t : Bytes
+      t = parameter 1 list
+
+      x : TextAt l q t
+      x = textIs 1 long
+
+      go : (d : ℕ) → Newest n b l (r .right) its t d
+          → Simulates n builtIns whole start (M.lockOf r q d (lent l o)) (S.perform (limitsOf n (length start)) (lockOf (D.newest t (s .standing .definitions))) c cs s)
+      go d (absent e f) =
+          let g : D.newest t (s .standing .definitions) ≡ D.newest t builtIns = ap (D.newest t) definitionsAre ∙ f builtIns in
+          rw (e, g) (refuseSim q t x (D.newest t builtIns) (builtIns-only t) refl lockOf refl (λ k bi. refl))
+      go d (present {k} {c = m} at f) =
+          let g : D.newest t (s .standing .definitions) ≡ found k (macro m) = ap (D.newest t) definitionsAre ∙ f builtIns refl in
+          rw (ne-eqb d nowhere (λ (e : d ≡ nowhere). absurd (omega (arith, at .below))), g) (markSim d k m t at)
 
   -- Arithmetic -------------------------------------------------------------------------------------------------------
 
@@ -430,6 +481,7 @@ module _ {n : ℕ} {whole start : List ℕ} {r : Run} {l o : List ℕ} {s : Stat
   performSim Seq long = seqSim long
   performSim Size long = sizeSim long
   performSim If long = ifSim
+  performSim Lock long = lockSim long
 
   -- what it needs, or 13
   suppliedSim : (bi : BuiltIn)
@@ -465,4 +517,4 @@ module _ {n : ℕ} {whole start : List ℕ} {r : Run} {l o : List ℕ} {s : Stat
           rw (e, g) (ownSim (D.newest t builtIns) (builtIns-only t) refl)
       go d (present {k} {c = m} at f) =
           let g : D.newest t (s .standing .definitions) ≡ found k (macro m) = ap (D.newest t) definitionsAre ∙ f builtIns refl in
-          rw (ne-eqb d nowhere (λ (e : d ≡ nowhere). absurd (omega (arith, at .below))), g) (readSim d k (m .room) (m .value) at)
+          rw (ne-eqb d nowhere (λ (e : d ≡ nowhere). absurd (omega (arith, at .below))), g) (readSim d k m at)

@@ -11,7 +11,7 @@ use lib.Dec.{eqb, ltb}
 use borrow.Author.Tests.{eq-eqb, ne-eqb, eqb-true, le-ltb, lt-ltb, ltb-true}
 use Rattle.memory.proofs.Blocks.{sameBytes-in, same-true}
 use Rattle.language.specs.declared.built_ins.BuiltIn.{BuiltIn}
-use Rattle.language.specs.declared.built_ins.BuiltIn.the-variants.{Def, Val, Update, Arithmetic, Seq, Size, If}
+use Rattle.language.specs.declared.built_ins.BuiltIn.the-variants.{Def, Val, Update, Arithmetic, Seq, Size, If, Lock}
 use Rattle.language.specs.Signs.{Bytes, Table, ascii, Sign, plain, dollar, comma, semicolon, tilde, quote, unquote, signOfKind, Meaning, copied, leftOut, opens, separates, applies, fetches, unquotes, outside, inside, closesTo, meaning, Language, language}
 use Rattle.language.specs.Definitions.{Content, macro, builtIn, Definition, Found, found, missing, newest}
 use Rattle.language.specs.Definitions as D
@@ -81,7 +81,7 @@ RightDefinition d = Right (d .name) (d .content)
 
 builtIns-right : All RightDefinition builtIns
 unfolding D.same
-builtIns-right = with refl (with refl (with refl (with refl (with refl (with refl (with refl (with refl (with refl (with refl (with refl empty))))))))))
+builtIns-right = with refl (with refl (with refl (with refl (with refl (with refl (with refl (with refl (with refl (with refl (with refl (with refl empty)))))))))))
 
 items-right : (its : List Item) → All RightDefinition (definitionsOf its)
 unfolding definitionsOf
@@ -181,7 +181,7 @@ module _ {n : ℕ} {whole start : List ℕ} {r : Run} {l o : List ℕ} {s : Stat
     gives-by b (o ∷ ds) (gives bs) p = tt
     gives-by b ds (reads j v) p = tt
     gives-by b ds (defines m v) p = tt
-    gives-by b ds (alters j v) p = tt
+    gives-by b ds (alters j h) p = tt
     gives-by b ds (faulty m) p = tt
 
     some-needed : (b : BuiltIn) → 1 ≤ needs b
@@ -192,6 +192,7 @@ module _ {n : ℕ} {whole start : List ℕ} {r : Run} {l o : List ℕ} {s : Stat
     some-needed Seq = omega arith
     some-needed Size = omega arith
     some-needed If = omega arith
+    some-needed Lock = omega arith
 
     -- what is found under the name
     found-by : (ks : List ℕ) (f : Found) → newest (parameter 0 (S.listOf c)) (s .standing .definitions) ≡ f

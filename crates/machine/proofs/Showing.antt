@@ -1,6 +1,7 @@
 -- What is read off a run and its memory is the standing that lies there: the cells determine the definitions.
 use Prim.Native.Nat.{ℕ, _≤_}
 use mathlib.Core.Path.{_≡_, refl, sym, ap, _∙_}
+use mathlib.Core.Bool.{true, false}
 use mathlib.Core.List.{List, [], _∷_}
 use lib.ListN.{length, take, drop}
 use lib.Seq.{take-at}
@@ -50,7 +51,7 @@ encoded-twice = (refl, refl)
 
 -- a definition without a name, and with an empty value in this room
 abbrev empty : ℕ → Definition
-empty k = record { name = []; content = macro (record { value = []; room = k }) }
+empty k = record { name = []; content = macro (record { value = []; room = k; locked = false }) }
 
 pub read-as-definitions : definitionsHeld twofold 0 nowhere ≡ empty 1 ∷ empty 2 ∷ []
 unfolding definitionsHeldFrom
@@ -60,8 +61,10 @@ pub read-behind-a-list : definitionsHeld twofold 0 0 ≡ empty 2 ∷ []
 unfolding definitionsHeldFrom
 read-behind-a-list = refl
 
--- name, value and defined length, from the cells before them
-pub read-whole : definitionsHeld (7 ∷ 0 ∷ 2 ∷ 3 ∷ 1 ∷ 107 ∷ 109 ∷ 97 ∷ 98 ∷ 99 ∷ []) 1 nowhere
-    ≡ record { name = 107 ∷ 109 ∷ []; content = macro (record { value = 97 ∷ []; room = 3 }) } ∷ []
+-- name, value, defined length and mark, from the cells before them
+pub read-whole : definitionsHeld (7 ∷ 0 ∷ 2 ∷ 3 ∷ 1 ∷ 107 ∷ 109 ∷ 97 ∷ 98 ∷ 99 ∷ 1 ∷ 1 ∷ 0 ∷ 0 ∷ 107 ∷ []) 1 nowhere
+    ≡ record { name = 107 ∷ 109 ∷ []; content = macro (record { value = 97 ∷ []; room = 3; locked = false }) }
+    ∷ record { name = 107 ∷ []; content = macro (record { value = []; room = 0; locked = true }) }
+    ∷ []
 unfolding definitionsHeldFrom
 read-whole = refl

@@ -13,18 +13,18 @@ use Rattle.language.specs.Scanning.{State, Standing}
 use Rattle.language.specs.Expansion.{Lent}
 use Rattle.machine.specs.declared.run.Run.{Run}
 use Rattle.machine.specs.declared.run.Answer.the-variants.{Ended}
-use Rattle.machine.specs.Walks.{headSize, nameLength, room, valueLength, nextPosition, nextList}
+use Rattle.machine.specs.Walks.{headSize, isLocked, nameLength, room, valueLength, nextPosition, nextList}
 use Rattle.machine.specs.Items.{Item, encode, width, definitionsOf, count}
 use Rattle.machine.specs.Frames.{Places, Frame, items, places, lefts, calls, bodies, Valid}
 use Rattle.machine.specs.Machine.{After}
 
 -- The definitions in the cells ---------------------------------------------------------------------------------------
 
--- the definition at a position: "name, value and defined length"
+-- the definition at a position: "name, value and defined length", and the mark
 abbrev pub definitionAt : List ℕ → ℕ → Definition
 definitionAt l p = record {
   name = block (p + headSize) (nameLength l p) l;
-  content = macro (record { value = block (p + headSize + nameLength l p) (valueLength l p) l; room = room l p });
+  content = macro (record { value = block (p + headSize + nameLength l p) (valueLength l p) l; room = room l p; locked = isLocked l p });
 }
 
 -- from a position on, newest first, in at most so many turns: the lists of bodies, known by their positions, are stepped over

@@ -2,11 +2,12 @@
 use Prim.Native.Nat.{ℕ, _+_}
 use mathlib.Core.List.{List, [], _∷_, _++_}
 use lib.ListN.{length}
+use lib.Dec.{ltb}
 use Rattle.language.specs.Signs.{Bytes}
-use Rattle.language.specs.Definitions.{Definition, macro}
+use Rattle.language.specs.Definitions.{Macro, Definition, macro}
 use Rattle.machine.specs.Walks.{mark}
 
--- a definition: a free cell, its name, its value, and what is left of its room; or the list of a body being read: where the
+-- a definition: its lock, its name, its value, and what is left of its room; or the list of a body being read: where the
 -- right stack stood at its `$`, its links and its reader to return to, and its name and parameters
 pub data Item : Type 0 where
   defined : ℕ → Bytes → Bytes → Bytes → Item
@@ -17,7 +18,7 @@ encodeArguments [] = []
 encodeArguments (a ∷ more) = length a ∷ (a ++ encodeArguments more)
 
 abbrev pub encodeItem : Item → List ℕ
-encodeItem (defined free name value spare) = free ∷ length name ∷ (length value + length spare) ∷ length value ∷ (name ++ (value ++ spare))
+encodeItem (defined lock name value spare) = lock ∷ length name ∷ (length value + length spare) ∷ length value ∷ (name ++ (value ++ spare))
 encodeItem (listed to links reader arguments) = to ∷ links ∷ reader ∷ (encodeArguments arguments ++ (mark ∷ []))
 
 unfoldable pub encode : List Item → List ℕ
@@ -27,14 +28,17 @@ encode (i ∷ items) = encodeItem i ++ encode items
 abbrev pub width : List Item → ℕ
 width items = length (encode items)
 
--- what the language has of a definition in cells
-abbrev pub definitionOf : Bytes → Bytes → Bytes → Definition
-definitionOf name value spare = record { name = name; content = macro (record { value = value; room = length value + length spare }) }
+-- what the language has of a definition in cells: it is locked where its lock is not 0
+abbrev pub macroOf : ℕ → Bytes → Bytes → Macro
+macroOf lock value spare = record { value = value; room = length value + length spare; locked = ltb 0 lock }
+
+abbrev pub definitionOf : ℕ → Bytes → Bytes → Bytes → Definition
+definitionOf lock name value spare = record { name = name; content = macro (macroOf lock value spare) }
 
 -- the definitions among the items
 unfoldable pub definitionsOf : List Item → List Definition
 definitionsOf [] = []
-definitionsOf (defined free name value spare ∷ items) = definitionOf name value spare ∷ definitionsOf items
+definitionsOf (defined lock name value spare ∷ items) = definitionOf lock name value spare ∷ definitionsOf items
 definitionsOf (listed to links reader arguments ∷ items) = definitionsOf items
 
 abbrev pub count : List Item → ℕ
@@ -48,5 +52,5 @@ encodeCall to from links waits ended hand = to ∷ from ∷ links ∷ (encodeArg
 -- only definitions
 unfoldable pub Definitions : List Item → Type 0
 Definitions [] = Unit {0}
-Definitions (defined free name value spare ∷ items) = Definitions items
+Definitions (defined lock name value spare ∷ items) = Definitions items
 Definitions (listed to links reader arguments ∷ items) = ⊥

@@ -9,13 +9,13 @@ use lib.ListN.{length, getD, set}
 use lib.Dec.{eqb, leb, ltb}
 use Rattle.memory.specs.Block.{moved, copied, lowBytes}
 use Rattle.language.specs.declared.built_ins.BuiltIn.{BuiltIn}
-use Rattle.language.specs.declared.built_ins.BuiltIn.the-variants.{Def, Val, Update, Arithmetic, Seq, Size, If}
+use Rattle.language.specs.declared.built_ins.BuiltIn.the-variants.{Def, Val, Update, Arithmetic, Seq, Size, If, Lock}
 use Rattle.language.specs.Signs.{isLetter, cellsLimit}
 use Rattle.language.specs.Outcomes
 use Rattle.language.specs.BuiltIns.{needs}
 use Rattle.language.specs.Charge.{openPrice}
 use Rattle.language.specs.Expansion.{Lent, lent}
-use Rattle.machine.specs.Walks.{nowhere, mark, packed, high, low, cell, headSize, argumentsFrom, listOverhead, nameLength, room, valueLength, withValueLength, withHead, rightBefore, withRightBefore, listLink, returnLink, withLinks, argument, newest, definitions, isRead, chosen, builtInNamed, compare, calculate}
+use Rattle.machine.specs.Walks.{nowhere, mark, packed, high, low, cell, headSize, argumentsFrom, listOverhead, isLocked, withLock, nameLength, room, valueLength, withValueLength, withHead, rightBefore, withRightBefore, listLink, returnLink, withLinks, argument, newest, definitions, isRead, chosen, builtInNamed, compare, calculate}
 use Rattle.decimal.specs.declared.operations.Answer as Arithmetical
 use Rattle.decimal.specs.declared.shortest.Decimal.{Decimal}
 use Rattle.decimal.specs.Operand.{isDigit}
@@ -403,7 +403,7 @@ valOf r name d m =
 abbrev pub val : Run → ℕ → Lent → After
 val r name m = valOf r name (newest (m .cells) (r .right) (r .source .list) name) m
 
--- UPDATE: "15 for the name given, 19, 20, 21"
+-- UPDATE: "15 for the name given, 19", 36, "20, 21"
 abbrev pub updateIn : Run → ℕ → ℕ → Lent → After
 updateIn r value d m =
     let l = m .cells in
@@ -418,7 +418,8 @@ updateIn r value d m =
 abbrev pub updateOf : Run → ℕ → ℕ → ℕ → Lent → After
 updateOf r name value d m =
     cond (eqb d nowhere) (refuseName r name m)
-    (cond (isRead (m .cells) (r .source .list) (r .source .body) d) (ends Outcomes.bodyBeingRead r m) (updateIn r value d m))
+    (cond (isLocked (m .cells) d) (ends Outcomes.locked r m)
+    (cond (isRead (m .cells) (r .source .list) (r .source .body) d) (ends Outcomes.bodyBeingRead r m) (updateIn r value d m)))
 
 abbrev pub update : Run → ℕ → ℕ → Lent → After
 update r name value m = updateOf r name value (newest (m .cells) (r .right) (r .source .list) name) m
@@ -441,6 +442,16 @@ choose r name m = chooseAt r name (chosen (m .cells) name) m
 
 -- the built-in that has its parameters, the list of its call being at `name`: "Surplus parameters are ignored." IF has none that
 -- are surplus
+-- LOCK: the mark where the definition stands, and the list gone
+abbrev pub lockIn : Run → ℕ → Lent → After
+lockIn r d m = let a = release r 0 m in record { run = a .run; answer = a .answer; lent = withCells (withLock (m .cells) d) m }
+
+abbrev pub lockOf : Run → ℕ → ℕ → Lent → After
+lockOf r name d m = cond (eqb d nowhere) (refuseName r name m) (lockIn r d m)
+
+abbrev pub lock : Run → ℕ → Lent → After
+lock r name m = lockOf r name (newest (m .cells) (r .right) (r .source .list) name) m
+
 abbrev pub performIn : Run → BuiltIn → ℕ → ℕ → ℕ → Lent → After
 performIn r Def name first second m = def r first second m
 performIn r Val name first second m = val r first m
@@ -449,6 +460,7 @@ performIn r (Arithmetic op) name first second m = giveAnswer r (calculate op (m 
 performIn r Seq name first second m = giveCount r (compare (m .cells) first second) m
 performIn r Size name first second m = giveCount r (getD (m .cells) first 0) m
 performIn r If name first second m = choose r name m
+performIn r Lock name first second m = lock r first m
 
 abbrev pub perform : Run → BuiltIn → ℕ → Lent → After
 perform r b name m = performIn r b name (argument (m .cells) name 1) (argument (m .cells) name 2) m

@@ -4,7 +4,7 @@ use mathlib.Core.Bool.{Bool, true, false, cond}
 use mathlib.Core.List.{List, [], _∷_}
 use mathlib.Core.Option.{Option, none}
 use lib.ListN.{length, getD, set}
-use lib.Dec.{eqb, leb}
+use lib.Dec.{eqb, leb, ltb}
 use lib.IntN.{ℤ}
 use Rattle.memory.specs.Block.{within, block, lowBytes, sameBlocks, sameBytes}
 use Rattle.decimal.specs.declared.operations.Operation.{Operation}
@@ -54,7 +54,13 @@ argumentsFrom = 3
 abbrev pub listOverhead : ℕ
 listOverhead = 5
 
--- of the definition at p
+-- of the definition at p. Document 02, Nine: it is locked where the first of its cells is not 0
+abbrev pub isLocked : List ℕ → ℕ → Bool
+isLocked l p = ltb 0 (getD l p 0)
+
+abbrev pub withLock : List ℕ → ℕ → List ℕ
+withLock l p = set l p 1
+
 abbrev pub nameLength : List ℕ → ℕ → ℕ
 nameLength l p = getD l (p + 1) 0
 
@@ -67,7 +73,7 @@ valueLength l p = getD l (p + 3) 0
 abbrev pub withValueLength : List ℕ → ℕ → ℕ → List ℕ
 withValueLength l p count = set l (p + 3) count
 
--- the head of a definition is written
+-- the head of a definition is written: "a fresh unlocked definition"
 abbrev pub withHead : List ℕ → ℕ → ℕ → ℕ → List ℕ
 withHead l p letters bytes = set (set (set (set l p 0) (p + 1) (cell letters)) (p + 2) (cell bytes)) (p + 3) (cell bytes)
 

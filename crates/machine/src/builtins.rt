@@ -16,7 +16,7 @@ ghost use Prim.Native.Nat.{ℕ, _+_, _≤_, _<_};
 ghost use lib.ListN.{length};
 ghost use Rattle.language.specs.Signs.{cellsLimit};
 ghost use Rattle.language.specs.Expansion.{lent};
-ghost use Rattle.machine.specs.Machine.{Marked, Resulting, leaves, release, releaseTo, released, defined, defineIn, def, refuseName, val, updateIn, update, choose, perform, supplied, applyBuiltIn};
+ghost use Rattle.machine.specs.Machine.{Marked, Resulting, leaves, release, releaseTo, released, defined, defineIn, def, refuseName, val, updateIn, update, choose, lock, perform, supplied, applyBuiltIn};
 
 impl Run {
     // 15 for a name that is none of theirs.
@@ -71,6 +71,7 @@ impl Run {
             BuiltIn::Seq => self.give_count(operands::compare(cells, first, second), cells, output),
             BuiltIn::Size => self.give_count(memory::read(cells, first), cells, output),
             BuiltIn::If => self.choose(name, cells, output),
+            BuiltIn::Lock => self.lock(first, cells),
         }
     }
 
@@ -205,7 +206,7 @@ impl Run {
         }
     }
 
-    // UPDATE changes the value where the definition stands: "15 for the name given, 19, 20, 21".
+    // UPDATE changes the value where the definition stands: "15 for the name given, 19", 36 if it is locked, "20, 21".
     fn update(self, name: usize, value: usize, cells: &mut [u32]) -> Stepped
         requires { ⌜ (Marked (length (now cells)) self) × (name ≤ 8589934592) × (value ≤ 8589934592) ⌝ }
         ensures { λ r. ⌜ ((o : List ℕ) → leaves r (lent (now (cells .exit)) o) ≡ update self name value (lent (now (cells .entry)) o)) ⌝ }
@@ -213,6 +214,9 @@ impl Run {
         let found = lookup::newest(cells, self.right, self.source.list, name);
         if found == Run::NOWHERE {
             return self.refuse_name(name, cells);
+        }
+        if layout::is_locked(cells, found) {
+            return self.ends_with(outcomes::LOCKED);
         }
         if lookup::is_read(cells, self.source.list, self.source.body, found) {
             return self.ends_with(outcomes::BODY_BEING_READ);
@@ -247,5 +251,19 @@ impl Run {
         }
         let count = memory::read(cells, second) as usize;
         self.give_block(second + 1, count, cells, output)
+    }
+
+    // LOCK marks the newest definition of the name where it stands.
+    fn lock(self, name: usize, cells: &mut [u32]) -> Stepped
+        requires { ⌜ (Marked (length (now cells)) self) × (name ≤ 8589934592) ⌝ }
+        ensures { λ r. ⌜ ((o : List ℕ) → leaves r (lent (now (cells .exit)) o) ≡ lock self name (lent (now (cells .entry)) o)) ⌝ }
+    {
+        let found = lookup::newest(cells, self.right, self.source.list, name);
+        if found == Run::NOWHERE {
+            return self.refuse_name(name, cells);
+        }
+        let st = self.release(0, cells);
+        layout::write_lock(cells, found);
+        st
     }
 }

@@ -1,6 +1,6 @@
 // How a run lies in its cells: the one place that knows the offsets.
 //
-//   a definition   +0 free   +1 name length   +2 defined length   +3 length now; then the name, and the value in the room of
+//   a definition   +0 lock   +1 name length   +2 defined length   +3 length now; then the name, and the value in the room of
 //                  the defined length
 //   an open call   +0 `right` at its `$`   +1 the list being read there   +2 hand and call around it   +3 its arguments
 //   a list         +0 as in its call   +1 its size and the list to return to   +2 body and offset to return to   +3 its arguments
@@ -8,7 +8,7 @@
 // An argument is its length and its bytes. The mark ends the arguments of a list.
 ghost use mathlib.Core.Path.{_≡_};
 ghost use Prim.Native.Nat.{_≤_};
-ghost use Rattle.machine.specs.Walks.{packed, high, low, cell, nameLength, room, valueLength, withValueLength, withHead, rightBefore, withRightBefore, listLink, returnLink, withLinks};
+ghost use Rattle.machine.specs.Walks.{packed, high, low, cell, isLocked, withLock, nameLength, room, valueLength, withValueLength, withHead, rightBefore, withRightBefore, listLink, returnLink, withLinks};
 
 // Ends a list, and is no length.
 pub(crate) const MARK: u32 = 65536;
@@ -61,7 +61,19 @@ pub(crate) fn cell(number: usize) -> u32
     (number % 4294967296) as u32
 }
 
-// Of a definition.
+// Of a definition: whether it is locked.
+pub(crate) fn is_locked(cells: &[u32], definition: usize) -> bool
+    ensures { λ r. ⌜ r ≡ isLocked (now (cells .entry)) definition ⌝ }
+{
+    memory::read(cells, definition) > 0
+}
+
+pub(crate) fn write_lock(cells: &mut [u32], definition: usize)
+    ensures { λ _. ⌜ now (cells .exit) ≡ withLock (now (cells .entry)) definition ⌝ }
+{
+    memory::write(cells, definition, 1);
+}
+
 pub(crate) fn name_length(cells: &[u32], definition: usize) -> u32
     requires { ⌜ definition ≤ 8589934592 ⌝ }
     ensures { λ r. ⌜ r ≡ nameLength (now (cells .entry)) definition ⌝ }

@@ -60,7 +60,7 @@ fn arithmetic(cells: &[u32], name: usize) -> Named
     word(cells, name)
 }
 
-// Which of the words from M6.
+// Which of the words from M6, and LOCK.
 fn word(cells: &[u32], name: usize) -> Named
     requires { ⌜ name ≤ 8589934592 ⌝ }
     ensures { λ r. ⌜ r ≡ namedAmong (now (cells .entry)) name (drop 8 builtIns) ⌝ }
@@ -74,6 +74,9 @@ fn word(cells: &[u32], name: usize) -> Named
     }
     if memory::same_bytes(cells, name + 1, count, b"IF") {
         return Named::Known(BuiltIn::If);
+    }
+    if memory::same_bytes(cells, name + 1, count, b"LOCK") {
+        return Named::Known(BuiltIn::Lock);
     }
     Named::Unknown
 }

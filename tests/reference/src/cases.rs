@@ -1,7 +1,8 @@
-//! Scripts with known ends, worked out by hand from document 01 and document 02's requests One to Eight, against
+//! Scripts with known ends, worked out by hand from document 01 and document 02's requests One to Nine, against
 //! both halves.
 mod charge_carried;
 mod keys;
+mod locked;
 mod m6_words;
 mod menu_wheels;
 mod nameless;

@@ -11,7 +11,8 @@ pub enum Sort {
     Refusal,
     /// What is lent does not suffice. "Outcomes 3, 4 and 5" substitution "does not have".
     Want,
-    /// "a fault of the text is an outcome from 10 to 24"; request Five has "33, a fault of the text".
+    /// "a fault of the text is an outcome from 10 to 24"; request Five has "33, a fault of the text", and request Nine
+    /// "36, a fault of the text".
     Fault,
 }
 
@@ -21,7 +22,7 @@ pub fn sort(outcome: u64) -> Option<Sort> {
         0..=1 => Some(Sort::Finish),
         2 | 30..=32 | 35 => Some(Sort::Refusal),
         3..=5 => Some(Sort::Want),
-        10..=24 | 33 => Some(Sort::Fault),
+        10..=24 | 33 | 36 => Some(Sort::Fault),
         _ => None,
     }
 }
@@ -59,12 +60,14 @@ impl fmt::Display for Report {
     }
 }
 
-/// A definition that stands: its name, its value now, and the length of the value that it was defined with.
+/// A definition that stands: its name, its value now, and the length of the value that it was defined with. By request
+/// Nine "definitions standing are compared by" the mark of LOCK "too".
 #[derive(Clone, Debug, PartialEq, Eq)]
 pub struct Standing {
     pub name: Vec<u8>,
     pub value: Vec<u8>,
     pub defined: usize,
+    pub locked: bool,
 }
 
 /// The report, the bytes written with an origin and a rule for each, and the definitions standing, newest first,

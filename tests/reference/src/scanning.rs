@@ -116,12 +116,14 @@ fn to_the_end(mut machine: Machine, mut one_scan: impl FnMut(&mut Machine) -> Sc
     }
 }
 
-/// A live definition. One scan makes at most one, so the scan tells it from all others.
+/// A live definition. One scan makes at most one, so the scan tells it from all others. LOCK's "mark goes wherever this
+/// definition goes".
 struct Definition {
     name: Vec<u8>,
     value: Rc<[u8]>,
     defined: usize,
     made: u64,
+    locked: bool,
 }
 
 /// A call: the scan that opened it, the bytes of its name and parameters, and where commas have ended arguments.
@@ -154,6 +156,18 @@ pub struct Gone {
     pub definitions: usize,
 }
 
+/// A definition that was found, as it stood when it was.
+#[derive(Clone, Copy, Debug, PartialEq, Eq)]
+pub struct Sought {
+    scan: u64,
+    /// The scan that made it.
+    pub made: u64,
+    pub defined: usize,
+    pub locked: bool,
+    /// Whether its body was being read.
+    pub read: bool,
+}
+
 struct Machine<'a> {
     table: &'a Table,
     text: &'a [u8],
@@ -178,6 +192,8 @@ struct Machine<'a> {
     gone: Gone,
     /// The list that a built-in acted on last, and the scan in which it went.
     acted_on: Option<(u64, Call)>,
+    /// The definition that was found last, by a call, VAL, UPDATE or LOCK.
+    sought: Option<Sought>,
 }
 
 impl Call {
@@ -227,6 +243,7 @@ impl<'a> Machine<'a> {
             most: 0,
             gone: Gone::default(),
             acted_on: None,
+            sought: None,
         }
     }
 
@@ -468,6 +485,7 @@ impl Machine<'_> {
 
     /// "Its body is read from the next scan."
     fn begin_body(&mut self, index: usize) -> Scanned {
+        self.note(index);
         let call = self.calls.pop().expect("the call applied");
         let Definition { made, ref value, .. } = self.definitions[index];
         let bytes = Rc::clone(value);
@@ -495,6 +513,7 @@ impl Machine<'_> {
             BuiltIn::Seq => self.seq(),
             BuiltIn::Size => self.size(),
             BuiltIn::If => self.choose(),
+            BuiltIn::Lock => self.lock(),
         }
     }
 
@@ -513,27 +532,55 @@ impl Machine<'_> {
             defined: value.len(),
             value,
             made: self.scans,
+            // "A later DEF of the name makes a fresh unlocked definition."
+            locked: false,
         });
         Ok(())
     }
 
-    /// Checks: 15, 19.
-    fn val(&mut self) -> Scanned {
+    /// Where the definition stands that VAL, UPDATE or LOCK is called for. Checks: 15, then 19 for VAL, UPDATE or LOCK on
+    /// a built-in; LOCK "has 13, 15 and 19 as VAL has".
+    fn definition_named(&mut self) -> Result<usize, u64> {
         let Found::Definition(index) = self.found(1)? else {
             return Err(19);
         };
+        self.note(index);
+        Ok(index)
+    }
+
+    /// Notes the definition that was found, before anything is done to it.
+    fn note(&mut self, index: usize) {
+        let Definition {
+            made, defined, locked, ..
+        } = self.definitions[index];
+        self.sought = Some(Sought {
+            scan: self.scans,
+            made,
+            defined,
+            locked,
+            read: self.is_read(made),
+        });
+    }
+
+    /// Of all bodies under way: "the innermost body being read" is one of those being read.
+    fn is_read(&self, made: u64) -> bool {
+        self.bodies.iter().any(|body| body.definition == made)
+    }
+
+    fn val(&mut self) -> Scanned {
+        let index = self.definition_named()?;
         let value = Rc::clone(&self.definitions[index].value);
         self.give(&value, Rule::GivenByVal)
     }
 
-    /// Checks: "15 for the name given, 19, 20, 21". The defined length stays, and the charge with it.
+    /// Checks: "15 for the name given, 19, 20, 21". The defined length stays, and the charge with it. Request Nine: "36
+    /// ... for UPDATE of a locked definition, between 19 and 20".
     fn update(&mut self) -> Scanned {
-        let Found::Definition(index) = self.found(1)? else {
-            return Err(19);
-        };
-        // Of all bodies under way: "the innermost body being read" is one of those being read.
-        let made = self.definitions[index].made;
-        if self.bodies.iter().any(|body| body.definition == made) {
+        let index = self.definition_named()?;
+        if self.definitions[index].locked {
+            return Err(36);
+        }
+        if self.is_read(self.definitions[index].made) {
             return Err(20);
         }
         let value: Rc<[u8]> = Rc::from(self.item(2));
@@ -541,6 +588,15 @@ impl Machine<'_> {
             return Err(21);
         }
         self.definitions[index].value = value;
+        self.end_built_in();
+        Ok(())
+    }
+
+    /// "`$LOCK,name;` marks the newest definition of that name", found before the list goes. LOCK "gives no text", and
+    /// "locking it again changes nothing".
+    fn lock(&mut self) -> Scanned {
+        let index = self.definition_named()?;
+        self.definitions[index].locked = true;
         self.end_built_in();
         Ok(())
     }
@@ -613,6 +669,7 @@ impl Machine<'_> {
             name: definition.name,
             value: definition.value.to_vec(),
             defined: definition.defined,
+            locked: definition.locked,
         });
         End {
             report,
@@ -697,6 +754,32 @@ impl Row<'_> {
         let body = self.machine.bodies.last();
         let begun = body.filter(|body| body.applied == self.machine.scans);
         begun.map(|body| body.call.items())
+    }
+
+    /// The definition that this scan found, by a call, VAL, UPDATE or LOCK.
+    pub fn sought(&self) -> Option<Sought> {
+        self.machine.sought.filter(|sought| sought.scan == self.machine.scans)
+    }
+
+    /// The scan that made the newest definition of a name.
+    pub fn newest(&self, name: &[u8]) -> Option<u64> {
+        let newest = self.machine.definitions.iter().rfind(|it| it.name == name);
+        newest.map(|definition| definition.made)
+    }
+
+    /// Whether the definition that a scan made is live.
+    pub fn live(&self, made: u64) -> bool {
+        self.machine.definitions.iter().any(|it| it.made == made)
+    }
+
+    /// The list of the open call, its name first, if the next scan applies it.
+    pub fn due(&self) -> Option<Vec<&[u8]>> {
+        let machine = self.machine;
+        let applies = |byte| machine.quotes == 0 && machine.table.kind(byte) == signs::APPLY;
+        match machine.due() {
+            Handled::Byte(byte) if applies(byte) => machine.calls.last().map(Call::items),
+            _ => None,
+        }
     }
 
     /// Whether what is read next lies in quotes.

@@ -125,10 +125,11 @@ pub enum BuiltIn {
     Seq,
     Size,
     If,
+    Lock,
 }
 
-/// The built-in names, which are fixed byte strings; the last three are those of document 02's request Four.
-pub const BUILT_INS: [(&[u8], BuiltIn); 11] = [
+/// The built-in names, which are fixed byte strings; the last four are those of document 02's requests Four and Nine.
+pub const BUILT_INS: [(&[u8], BuiltIn); 12] = [
     (b"DEF", BuiltIn::Def),
     (b"VAL", BuiltIn::Val),
     (b"UPDATE", BuiltIn::Update),
@@ -140,12 +141,14 @@ pub const BUILT_INS: [(&[u8], BuiltIn); 11] = [
     (b"SEQ", BuiltIn::Seq),
     (b"SIZE", BuiltIn::Size),
     (b"IF", BuiltIn::If),
+    (b"LOCK", BuiltIn::Lock),
 ];
 
-/// "VAL needs one parameter, the others two." By request Four, "SEQ and IF need two parameters, SIZE one".
+/// "VAL needs one parameter, the others two." By request Four, "SEQ and IF need two parameters, SIZE one", and by request
+/// Nine LOCK has 13 "as VAL has".
 pub fn parameters_needed(built_in: BuiltIn) -> usize {
     match built_in {
-        BuiltIn::Val | BuiltIn::Size => 1,
+        BuiltIn::Val | BuiltIn::Size | BuiltIn::Lock => 1,
         _ => 2,
     }
 }

@@ -94,11 +94,13 @@ enum Value {
     Text(Rc<[u8]>),
 }
 
+/// "Substitution's definition lists carry the mark" of LOCK.
 struct Definition {
     name: Vec<u8>,
     value: Value,
     defined: usize,
     serial: u64,
+    locked: bool,
 }
 
 impl Definition {
@@ -386,6 +388,7 @@ impl Handed<'_> {
                 self.result(length.as_bytes(), Rule::GivenByBuiltIn, known)
             }
             BuiltIn::If => self.result(chosen(&list[1..]), Rule::GivenByBuiltIn, known),
+            BuiltIn::Lock => self.lock(&list[1]),
         }
     }
 
@@ -400,6 +403,7 @@ impl Handed<'_> {
             value: Value::Text(Rc::from(value)),
             defined: value.len(),
             serial: self.serial,
+            locked: false,
         }))
     }
 
@@ -410,13 +414,27 @@ impl Handed<'_> {
         Ok(Made::Pieces(pieces))
     }
 
-    /// "UPDATE alters the value where the definition stands." Checks: 15, 19, 20, 21.
+    /// LOCK marks the definition where it stands. Checks: 15, 19. "LOCK ... gives no text".
+    fn lock(&mut self, name: &[u8]) -> Result<Made, Stop> {
+        let found = self.found(name)?;
+        let definition = &mut self.definitions[found];
+        if matches!(definition.value, Value::BuiltIn(_)) {
+            return fault(19);
+        }
+        definition.locked = true;
+        Ok(Made::Pieces(vec![Vec::new()]))
+    }
+
+    /// "UPDATE alters the value where the definition stands." Checks: 15, 19, 36 for a locked definition, 20, 21.
     fn update(&mut self, name: &[u8], value: &[u8], known: Known) -> Result<Made, Stop> {
         let found = self.found(name)?;
         let definition = &mut self.definitions[found];
         let Value::Text(standing) = &mut definition.value else {
             return fault(19);
         };
+        if definition.locked {
+            return fault(36);
+        }
         let mut reading = known.body;
         while let Some(body) = reading {
             if body.serial == definition.serial {
@@ -441,6 +459,7 @@ impl<'b> Handed<'b> {
             value: Value::BuiltIn(built_in),
             defined: 0,
             serial: 0,
+            locked: false,
         });
         let definitions = built_ins.collect();
         Handed {
@@ -485,5 +504,6 @@ fn stand(definition: Definition) -> Option<Standing> {
         name: definition.name,
         value: text.to_vec(),
         defined: definition.defined,
+        locked: definition.locked,
     })
 }

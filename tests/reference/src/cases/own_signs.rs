@@ -248,6 +248,7 @@ fn exchange_end(end: End, signs: &[u8; 6]) -> End {
         name: exchange(&it.name, signs),
         value: exchange(&it.value, signs),
         defined: it.defined,
+        locked: it.locked,
     });
     End {
         report: end.report,

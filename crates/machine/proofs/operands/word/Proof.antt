@@ -60,16 +60,41 @@ returns-3 c =
       told (c .before .same-bytes3 .ensures) (c .if3 .taken),
     )
 
+add-same-bytes-4 : tie.Need-add-same-bytes-4
+add-same-bytes-4 c = search needs
+
+slice-aggregate-same-bytes-4 : tie.Need-slice-aggregate-same-bytes-4
+slice-aggregate-same-bytes-4 c = search needs
+
+same-bytes-requires-4 : tie.Need-same-bytes-requires-4
+same-bytes-requires-4 c κs = search needs
+
 returns-4 : tie.Need-returns-4
 unfolding namedAmong
 returns-4 c =
-    let c₂ = c .before .before .before in
+    let c₃ = c .before .before .before in
+    let c₂ = c₃ .before .before .before in
     let c₁ = c₂ .before .before .before in
     rw (
       ← c₁ .before .before .before .read .ensures,
       told (c₁ .before .same-bytes .ensures) (c₁ .if1 .left),
       told (c₂ .before .same-bytes2 .ensures) (c₂ .if2 .left),
-      told (c .before .same-bytes3 .ensures) (c .if3 .left),
+      told (c₃ .before .same-bytes3 .ensures) (c₃ .if3 .left),
+      told (c .before .same-bytes4 .ensures) (c .if4 .taken),
+    )
+
+returns-5 : tie.Need-returns-5
+unfolding namedAmong
+returns-5 c =
+    let c₃ = c .before .before .before in
+    let c₂ = c₃ .before .before .before in
+    let c₁ = c₂ .before .before .before in
+    rw (
+      ← c₁ .before .before .before .read .ensures,
+      told (c₁ .before .same-bytes .ensures) (c₁ .if1 .left),
+      told (c₂ .before .same-bytes2 .ensures) (c₂ .if2 .left),
+      told (c₃ .before .same-bytes3 .ensures) (c₃ .if3 .left),
+      told (c .before .same-bytes4 .ensures) (c .if4 .left),
     )
 
 pub word-spec : {M : Type 1} → statement M
@@ -90,4 +115,8 @@ word-spec =
     slice-aggregate-same-bytes-3
     same-bytes-requires-3
     returns-3
-    returns-4)
+    add-same-bytes-4
+    slice-aggregate-same-bytes-4
+    same-bytes-requires-4
+    returns-4
+    returns-5)

@@ -1,13 +1,13 @@
 //! The built-ins, as scripts call them.
 use crate::random::Random;
 
-pub const ALL: [&str; 11] = [
-    "DEF", "VAL", "UPDATE", "+", "-", "*", "Quot", "Rem", "SEQ", "SIZE", "IF",
+pub const ALL: [&str; 12] = [
+    "DEF", "VAL", "UPDATE", "+", "-", "*", "Quot", "Rem", "SEQ", "SIZE", "IF", "LOCK",
 ];
 pub const ARITHMETIC: [&str; 5] = ["+", "-", "*", "Quot", "Rem"];
 pub const FROM_M6: [&str; 3] = ["SEQ", "SIZE", "IF"];
 /// Those that need one parameter alone.
-pub const OF_ONE: [&str; 2] = ["VAL", "SIZE"];
+pub const OF_ONE: [&str; 3] = ["VAL", "SIZE", "LOCK"];
 
 /// One of all; those from M6 more often than others.
 pub fn any(random: &mut Random) -> &'static str {

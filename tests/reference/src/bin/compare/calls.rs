@@ -103,7 +103,7 @@ impl Grower {
 
     /// The parameters of a built-in, or all of a call, from the commas of a body, as in case f.
     pub fn handed(&mut self, _: Place) {
-        const LISTS: [&str; 12] = [
+        const LISTS: [&str; 13] = [
             "DEF,a,x",
             "+,1,2",
             "b,1",
@@ -112,6 +112,7 @@ impl Grower {
             "Quot,-9",
             "VAL,b",
             "UPDATE,b,",
+            "LOCK,b",
             "SEQ,x,x",
             "SIZE,xy",
             "IF,1,x",

@@ -5,6 +5,7 @@ use crate::fetching;
 use crate::giving;
 use crate::lending;
 use crate::library;
+use crate::locking::{self, Locks};
 use crate::memory::Memory;
 use crate::naming::{self, Names};
 use crate::origins;
@@ -15,11 +16,12 @@ use reference::scanning::{self, Lent};
 use reference::substitution::{substitute, Bounds};
 
 /// What a script's run is lent, and how it ends by scanning, with the ways that `~`, the words from M6, empty names,
-/// divisions and origins went and the course of the charge.
+/// divisions, origins and locks went and the course of the charge.
 pub struct Run {
     pub lent: Lent,
     pub scanned: End,
     pub course: Course,
+    pub locks: Locks,
     fetching: fetching::Ways,
     giving: giving::Ways,
     names: Names,
@@ -35,6 +37,7 @@ pub struct Told {
     pub naming: naming::Ways,
     pub dividing: dividing::Ways,
     pub tracing: tracing::Ways,
+    pub locking: locking::Ways,
 }
 
 impl Run {
@@ -42,6 +45,7 @@ impl Run {
         let (mut fetching, mut giving) = (fetching::Ways::default(), giving::Ways::default());
         let (mut course, mut names) = (Course::default(), Names::default());
         let (mut dividing, mut scans) = (dividing::Ways::default(), Scans::default());
+        let mut locks = Locks::default();
         let scanned = scanning::run_traced(script.checked(), &script.text, &lent, &mut |row| {
             if let Some(way) = fetching::way(row) {
                 fetching[way] = true;
@@ -52,6 +56,7 @@ impl Run {
             dividing::follow(&mut dividing, row, lent.cells);
             course.follow(row);
             names.follow(row);
+            locks.follow(script, row, lent.output);
             if script.asks() {
                 scans.follow(script, row);
             }
@@ -61,6 +66,7 @@ impl Run {
             lent,
             scanned,
             course,
+            locks,
             fetching,
             giving,
             names,
@@ -78,6 +84,7 @@ impl Run {
             naming: self.names.ways(),
             dividing: self.dividing,
             tracing: self.tracing,
+            locking: self.locks.ways(&self.scanned.report),
         }
     }
 }

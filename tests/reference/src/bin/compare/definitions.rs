@@ -43,6 +43,7 @@ impl Grower {
             name,
             needs,
             length,
+            locked: false,
             makes: if body { made } else { Vec::new() },
         }
     }
@@ -101,7 +102,7 @@ impl Grower {
         }
     }
 
-    /// UPDATE by a value that is no longer than the one defined.
+    /// UPDATE by a value that is no longer than the one defined, seldom of one that is locked.
     pub fn update(&mut self, place: Place) {
         const VALUES: [&str; 9] = [
             "",
@@ -117,6 +118,9 @@ impl Grower {
         let Some(known) = self.callable(place.names) else {
             return self.instead(place);
         };
+        if known.locked && !self.random.one_in(8) {
+            return self.value_of(known.name, place);
+        }
         let fitting = VALUES
             .iter()
             .filter(|value| value.trim_matches(['<', '>']).len() <= known.length)

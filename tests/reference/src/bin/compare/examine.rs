@@ -1,6 +1,6 @@
-//! One script: with plenty, about what it needs, often about a record of its charge or with one cell fewer than 33 needs,
-//! with all that may be lent where the cells were soon too few, now and then about the longest that may be lent, and
-//! where it asks for origins often with too few numbers.
+//! One script: with plenty, about what it needs, often about a record of its charge, with one cell fewer than 33 or 36
+//! needs or up to a LOCK, with all that may be lent where the cells were soon too few, now and then about the longest that
+//! may be lent, and where it asks for origins often with too few numbers.
 use crate::asking;
 use crate::check::{check, substituted, Difference, Run};
 use crate::lending;
@@ -52,8 +52,14 @@ fn about(first: &Run, plenty: &Lent, random: &mut Random) -> Vec<Lent> {
     if !records.is_empty() && random.one_in(4) {
         about.push(lending::about_record(records, plenty, random));
     }
-    if need.outcome == 33 && random.one_in(2) {
+    if matches!(need.outcome, 33 | 36) && random.one_in(2) {
         about.push(lending::one_cell_short(need, plenty));
+    }
+    if let Some(scan) = first.locks.last().filter(|_| random.one_in(8)) {
+        about.push(lending::about_scan(scan, plenty, random));
+    }
+    if let Some(charge) = first.locks.highest().filter(|_| random.one_in(4)) {
+        about.push(lending::about_charge(charge, plenty, random));
     }
     about
 }

@@ -2,15 +2,16 @@
 use crate::built_ins;
 use crate::grower::Place;
 use crate::letters;
+use crate::locked;
 use crate::menu_wheels;
 use crate::nameless;
 use crate::numbers;
 use crate::random::Random;
 
-/// The outcomes that a planted piece leads to. 12, 15, 33 and 13 have more pieces than the others, and stand here twice
-/// and thrice.
-pub const PLANTED: [u64; 22] = [
-    1, 10, 11, 12, 12, 13, 13, 13, 14, 15, 15, 16, 17, 18, 19, 20, 21, 22, 23, 24, 33, 33,
+/// The outcomes that a planted piece leads to. 12, 19, 33, 15, 36 and 13 have more pieces than the others, and stand here
+/// twice and more often.
+pub const PLANTED: [u64; 28] = [
+    1, 10, 11, 12, 12, 13, 13, 13, 13, 14, 15, 15, 15, 16, 17, 18, 19, 19, 20, 21, 22, 23, 24, 33, 33, 36, 36, 36,
 ];
 
 /// A piece for a fault of the text, or for the end at a bare `>`.
@@ -31,6 +32,7 @@ pub fn planted(outcome: u64, place: Place, random: &mut Random) -> Vec<u8> {
         22 => not_a_number(random),
         23 => menu_wheels::by_zero(random),
         33 => nameless::refused(random),
+        36 => locked::refused(random),
         _ => numbers::exceeding(random),
     }
 }
@@ -74,7 +76,8 @@ fn missing(in_body: bool, random: &mut Random) -> Vec<u8> {
         "$DEF,z,<~9>;$z,1,2,3,4,5,6,7,8;",
     ]);
     let built_in = built_ins::any(random);
-    match random.below(8) {
+    match random.below(9) {
+        8 => locked::alone(random).into_bytes(),
         3..=5 if in_body => text(random.pick(&["~9", "~a", "~z"])),
         0 => text(piece),
         5 => letters::one_short(random),
@@ -85,7 +88,7 @@ fn missing(in_body: bool, random: &mut Random) -> Vec<u8> {
     }
 }
 
-/// Half of the names are empty.
+/// About half of the names are empty.
 fn not_defined(random: &mut Random) -> Vec<u8> {
     const NAMED: [&str; 11] = [
         "$zz;",
@@ -100,19 +103,26 @@ fn not_defined(random: &mut Random) -> Vec<u8> {
         "$SIZ,a;",
         "$SIZES,a;",
     ];
-    if random.one_in(2) {
-        nameless::looked_up(random)
-    } else {
-        text(random.pick(&NAMED))
+    match random.below(9) {
+        0..=3 => nameless::looked_up(random),
+        4 => locked::not_defined(random).into_bytes(),
+        _ => text(random.pick(&NAMED)),
     }
 }
 
+/// At times after a LOCK.
 fn built_in(random: &mut Random) -> Vec<u8> {
-    let built_in = built_ins::any(random);
-    match random.below(3) {
-        0 => format!("$UPDATE,{built_in},x;").into_bytes(),
-        1 => format!("$UPDATE,{built_in},;").into_bytes(),
-        _ => format!("$VAL,{built_in};").into_bytes(),
+    let before = random.pick(&["", "", "", "$DEF,s,1;$LOCK,s;"]);
+    let built_in = if random.one_in(6) {
+        "LOCK"
+    } else {
+        built_ins::any(random)
+    };
+    match random.below(4) {
+        0 => format!("{before}$UPDATE,{built_in},x;").into_bytes(),
+        1 => format!("{before}$UPDATE,{built_in},;").into_bytes(),
+        2 => format!("{before}$LOCK,{built_in};").into_bytes(),
+        _ => format!("{before}$VAL,{built_in};").into_bytes(),
     }
 }
 

@@ -4,6 +4,7 @@ use crate::bulk_words;
 use crate::faults::PLANTED;
 use crate::grower::grown;
 use crate::lending::LONGEST;
+use crate::locked;
 use crate::menu_wheels;
 use crate::noise;
 use crate::own_signs;
@@ -13,10 +14,12 @@ use crate::script::Script;
 use crate::soak;
 use reference::signs::Table;
 
-/// One script in so many is a soak script, one in so many has a division at its end, one in so many comes up to the
-/// most cells that may be lent, and one in so many calls the words from M6 with thousands of bytes.
+/// One script in so many is a soak script, one in so many has a division at its end, one in so many LOCK or UPDATE of
+/// what it marked, one in so many comes up to the most cells that may be lent, and one in so many calls the words from
+/// M6 with thousands of bytes.
 const SOAKS: usize = 25;
 const DIVISIONS: usize = 25;
+const LOCKS: usize = 40;
 const BRIMS: usize = 300;
 const BULKS: usize = 120;
 /// One script in so many asks where each byte came from, and of these one in so many writes at the end of the longest
@@ -78,18 +81,21 @@ fn text(random: &mut Random) -> Vec<u8> {
     if random.one_in(DIVISIONS) {
         return menu_wheels::script(random);
     }
+    if random.one_in(LOCKS) {
+        return locked::script(random);
+    }
     let items = size(random);
     match random.below(100) {
         0..=9 => noise::raw(random, 3 * items),
-        10..=37 => {
+        10..=40 => {
             let fault = PLANTED[random.below(PLANTED.len())];
             grown(random, items, Some(fault))
         }
-        38..=45 => {
+        41..=48 => {
             let script = grown(random, items, None);
             noise::edited(script, random)
         }
-        46..=49 => {
+        49..=52 => {
             let script = grown(random, items, None);
             noise::cut(script, random)
         }

@@ -1,8 +1,8 @@
 //! What SEQ, SIZE and IF come to in a run, as its scanning tells it.
 use reference::scanning::Row;
 
-/// What is counted beside the outcomes: what each of the three gave, and the ends at a call of one of them or of VAL or
-/// UPDATE for its name. IF gives by its first pair or by a later one what is not empty.
+/// What is counted beside the outcomes: what each of the three gave, and the ends at a call of one of them or of VAL,
+/// UPDATE or LOCK for its name. IF gives by its first pair or by a later one what is not empty.
 pub const WAYS: [&str; 12] = [
     "SEQ gave 1",
     "SEQ gave 0",

@@ -2,6 +2,7 @@
 //! calls find one, with the parameters that its body fetches.
 use crate::faults;
 use crate::letters;
+use crate::locked;
 use crate::m6_words;
 use crate::menu_wheels;
 use crate::nameless;
@@ -62,6 +63,8 @@ pub struct Known {
     pub name: usize,
     pub needs: usize,
     pub length: usize,
+    /// Whether LOCK marked it.
+    pub locked: bool,
     /// What its body defines; this stays when the call ends.
     pub makes: Vec<Known>,
 }
@@ -70,7 +73,7 @@ pub struct Known {
 type Weights = [usize; 3];
 type Item = fn(&mut Grower, Place);
 
-const ITEMS: [(Weights, Item); 31] = [
+const ITEMS: [(Weights, Item); 33] = [
     ([100, 150, 120], Grower::word),
     ([160, 60, 60], Grower::definition),
     ([260, 150, 220], Grower::call),
@@ -78,6 +81,8 @@ const ITEMS: [(Weights, Item); 31] = [
     ([20, 20, 220], Grower::parameter),
     ([40, 40, 40], Grower::value),
     ([60, 30, 50], Grower::update),
+    ([14, 10, 14], locked::lock),
+    ([14, 8, 8], locked::marked),
     ([40, 50, 50], Grower::arithmetic),
     ([30, 40, 40], menu_wheels::division),
     ([14, 8, 8], menu_wheels::wheel),

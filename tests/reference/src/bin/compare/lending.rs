@@ -81,6 +81,18 @@ pub fn one_cell_short(need: &Report, plenty: &Lent) -> Lent {
     }
 }
 
+/// An allowance that is used with a scan, or just before it.
+pub fn about_scan(scan: u64, plenty: &Lent, random: &mut Random) -> Lent {
+    let allowance = scan - u64::from(random.one_in(2));
+    Lent { allowance, ..*plenty }
+}
+
+/// Mostly one cell fewer than a charge that was the highest so far, and else exactly so many.
+pub fn about_charge(charge: usize, plenty: &Lent, random: &mut Random) -> Lent {
+    let cells = charge - usize::from(!random.one_in(4));
+    Lent { cells, ..*plenty }
+}
+
 /// All cells and all output that may be lent.
 pub fn all(plenty: &Lent) -> Lent {
     Lent {

@@ -23,6 +23,8 @@ mod keys;
 mod lending;
 mod letters;
 mod library;
+mod locked;
+mod locking;
 mod m6_words;
 mod memory;
 mod menu_wheels;

@@ -88,11 +88,12 @@ pub fn alone(random: &mut Random) -> Vec<u8> {
     })
 }
 
-/// Such a name looked up by a call, by VAL or by UPDATE: 15.
+/// Such a name looked up by a call, by VAL, by LOCK or by UPDATE: 15.
 pub fn looked_up(random: &mut Random) -> Vec<u8> {
-    placed(random, |name, random| match random.below(3) {
-        0 => format!("${name}{};", random.pick(&["", ",", ",x"])),
-        1 => format!("$VAL,{name}{};", built_ins::surplus(random)),
+    placed(random, |name, random| match random.below(10) {
+        0..=2 => format!("${name}{};", random.pick(&["", ",", ",x"])),
+        3..=5 => format!("$VAL,{name}{};", built_ins::surplus(random)),
+        6 => format!("$LOCK,{name}{};", built_ins::surplus(random)),
         _ => format!("$UPDATE,{name},{};", random.pick(&["", "x"])),
     })
 }

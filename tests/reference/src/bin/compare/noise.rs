@@ -1,10 +1,10 @@
 //! Scripts that nobody would write: raw bytes, loose tokens, and well-formed scripts edited at random or cut.
 use crate::random::Random;
 
-const TOKENS: [&str; 34] = [
-    "$DEF,", "$DEF,a,<", "$DEF,b,", "$a", "$b;", "$a,", "$VAL,a;", "$UPDATE,", "$+,1,", "$Rem,", "$SEQ,a,", "$SIZE,",
-    "$IF,1,", "$IF,0,a,", "a", "b", "x", "1", "-7", ",", ",", ";", ";", ";", "~1", "~0", "~2", "~a", "~z", "~", "<",
-    ">", ">;", "$",
+const TOKENS: [&str; 35] = [
+    "$DEF,", "$DEF,a,<", "$DEF,b,", "$a", "$b;", "$a,", "$VAL,a;", "$UPDATE,", "$LOCK,a;", "$+,1,", "$Rem,", "$SEQ,a,",
+    "$SIZE,", "$IF,1,", "$IF,0,a,", "a", "b", "x", "1", "-7", ",", ",", ";", ";", ";", "~1", "~0", "~2", "~a", "~z",
+    "~", "<", ">", ">;", "$",
 ];
 
 fn plain_or_sign(random: &mut Random) -> u8 {

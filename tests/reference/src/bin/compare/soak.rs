@@ -1,5 +1,6 @@
 //! Soak scripts: the charge rises and falls many times, then comes to a new highest. With plenty lent they run to their
-//! end, or to the fault planted there: every name is found, every parameter supplied, and UPDATE's values fit.
+//! end, or to the fault planted there: every name is found, every parameter supplied, and UPDATE's values fit and are not
+//! for what is locked.
 use crate::built_ins;
 use crate::faults::{planted, PLANTED};
 use crate::grower::Place;
@@ -10,6 +11,9 @@ use crate::random::Random;
 /// result.
 const HEAD: &str = "$DEF,e,;$DEF,i,<~1>;$DEF,d,<~1~1~1~1>;$DEF,p,<x,y>;$DEF,m,<$DEF,~1,~2;>;\
                     $DEF,g,<$e,~1$i,~2;,~0;~1>;$DEF,v,<12345678>;$DEF,w,i;$DEF,7,<~1~0>;";
+
+/// Names of definitions that are called, or given by VAL, and not updated before the end.
+const CALLED: [&str; 6] = ["e", "i", "p", "m", "g", "w"];
 
 /// Names of definitions that are not called.
 const NAMES: [&str; 5] = ["t", "u", " ", "ab", "t"];
@@ -34,12 +38,14 @@ struct Soak {
 type Piece = fn(&mut Soak, usize);
 
 /// Pieces that give no text, and so may stand in a name or before a number.
-const SILENT: [(usize, Piece); 5] = [
+const SILENT: [(usize, Piece); 7] = [
     (4, Soak::eaten),
     (6, Soak::defined),
     (2, Soak::defined_again),
     (3, Soak::made),
     (3, Soak::updated),
+    (2, Soak::locked),
+    (1, Soak::defined_and_locked),
 ];
 
 /// Pieces that give text.
@@ -74,6 +80,8 @@ pub fn script(random: &mut Random) -> Vec<u8> {
         let fault = PLANTED[soak.random.below(PLANTED.len())];
         let fault = planted(fault, Place::text(), &mut soak.random);
         soak.text.extend(fault);
+    } else if soak.random.one_in(3) {
+        soak.emptied();
     }
     soak.put(&";".repeat(open));
     soak.text
@@ -256,6 +264,30 @@ impl Soak {
         self.one_of(&["", "1", "<~1>", "23456", "<,>", "$i,no;", "87654321"]);
         self.surplus(depth);
         self.put(";");
+    }
+
+    /// One that is called and never updated.
+    fn locked(&mut self, depth: usize) {
+        self.put("$LOCK,");
+        self.silent(depth);
+        self.one_of(&CALLED);
+        self.surplus(depth);
+        self.put(";");
+    }
+
+    /// One that is not called, locked where it is made.
+    fn defined_and_locked(&mut self, depth: usize) {
+        let name = self.random.pick(&NAMES);
+        self.put(&format!("$DEF,{name},"));
+        self.pieces(depth);
+        self.put(&format!(";$LOCK,{name};"));
+    }
+
+    /// At last UPDATE of one that may be locked, after all that has gone.
+    fn emptied(&mut self) {
+        self.put("$UPDATE,");
+        self.one_of(&CALLED);
+        self.put(",;");
     }
 
     fn value(&mut self, depth: usize) {

@@ -59,8 +59,9 @@ pub fn end(who: &str, end: &End, asks: bool) {
     }
     for standing in &end.standing {
         let (name, value) = (standing.name.escape_ascii(), standing.value.escape_ascii());
+        let locked = if standing.locked { ", locked" } else { "" };
         println!(
-            "    standing: {name} = {value} (defined with {} bytes)",
+            "    standing: {name} = {value} (defined with {} bytes{locked})",
             standing.defined
         );
     }

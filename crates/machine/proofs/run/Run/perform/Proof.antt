@@ -62,6 +62,12 @@ enum-told-6 c = search needs
 choose-requires : tie.Need-choose-requires
 choose-requires c κs = search needs
 
+enum-told-7 : tie.Need-enum-told-7
+enum-told-7 c = search needs
+
+lock-requires : tie.Need-lock-requires
+lock-requires c κs = search needs
+
 same-length : tie.Need-same-length
 same-length c = search needs
 
@@ -143,6 +149,15 @@ same-length-12 c = search needs
 returns-7 : tie.Need-returns-7
 returns-7 c = let b = c .before .before .before .before in rw (b .before .before .before .enum-told6 .given .1) (b .choose .ensures)
 
+same-length-13 : tie.Need-same-length-13
+same-length-13 c = search needs
+
+returns-8 : tie.Need-returns-8
+returns-8 c =
+    let b = c .before .before in
+    let t = b .before .before in
+    rw (t .enum-told7 .given .1, ← t .before .before .before .before .argument .ensures .0) (b .lock .ensures _)
+
 pub perform-spec : {M : Type 1} → statement M
 perform-spec =
     tie.close
@@ -166,6 +181,8 @@ perform-spec =
     give-count-requires-2
     enum-told-6
     choose-requires
+    enum-told-7
+    lock-requires
     same-length
     returns
     same-length-2
@@ -184,4 +201,6 @@ perform-spec =
     returns-6
     same-length-11
     same-length-12
-    returns-7)
+    returns-7
+    same-length-13
+    returns-8)
