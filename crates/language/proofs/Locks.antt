@@ -18,7 +18,7 @@ use Rattle.language.specs.Charge.{openPrice, endPrice}
 use Rattle.language.specs.Ends.{End}
 use Rattle.language.specs.Scanning.{Call, Body, State, Step, next, stop, Limits, listOf}
 use Rattle.language.specs.Scanning as S
-use Rattle.language.specs.Locks.{Numbered, here, there, isLocked, underWay, going, numberAfter, StandsTo, arrived, goes, ComesFrom, stood, made}
+use Rattle.language.specs.Locks.{Numbered, here, there, isLocked, underWay, going, numberAfter, StandsTo, arrived, goes, Becomes, unaltered, changes, ComesFrom, stood, made}
 use Rattle.language.proofs.Lists.{either, by-definition}
 use Rattle.language.proofs.Prices.{length-oldest}
 use Rattle.language.proofs.Deeds.{newest-stands}
@@ -64,27 +64,27 @@ placed a b P {k} {j} old new =
 
 -- What stands, and what goes -----------------------------------------------------------------------------------------
 
--- definitions that are altered where they stand, but locked ones are not, and none in its name
+-- definitions that are altered where they stand, but locked ones are not
 record Stays (ds ds₁ : List Definition) : Type 0 where
   count : length ds₁ ≡ length ds
   kept : {d : Definition} {k : ℕ} → Numbered d k ds → isLocked (d .content) ≡ true → Numbered d k ds₁
-  from : {e : Definition} {k : ℕ} → Numbered e k ds₁ → (d : Definition) × Numbered d k ds × (e .name ≡ d .name)
+  from : {e : Definition} {k : ℕ} → Numbered e k ds₁ → (d : Definition) × Numbered d k ds × Becomes d e
 
 -- where nothing is altered
 idle : {ds : List Definition} → Stays ds ds
-idle = record { count = refl; kept = λ p l. p; from = λ {e} p. (e, p, refl) }
+idle = record { count = refl; kept = λ p l. p; from = λ {e} p. (e, p, unaltered) }
 
 -- one more, that is altered at most where it is not locked
-stack : {ds ds₁ : List Definition} (x y : Definition) → (isLocked (x .content) ≡ true → y ≡ x) → y .name ≡ x .name → Stays ds ds₁
+stack : {ds ds₁ : List Definition} (x y : Definition) → (isLocked (x .content) ≡ true → y ≡ x) → Becomes x y → Stays ds ds₁
     → Stays (x ∷ ds) (y ∷ ds₁)
-stack {ds} {ds₁} x y same name r = record { count = ap suc (r .count); kept = λ p l. keep p l; from = λ p. back p }
+stack {ds} {ds₁} x y same becomes r = record { count = ap suc (r .count); kept = λ p l. keep p l; from = λ p. back p }
   where
     keep : {d : Definition} {k : ℕ} → Numbered d k (x ∷ ds) → isLocked (d .content) ≡ true → Numbered d k (y ∷ ds₁)
     keep {k = k} (here q) l = subst (λ (z : Definition). Numbered x k (z ∷ ds₁)) (sym (same l)) (here (q ∙ sym (r .count)))
     keep (there q) l = there (r .kept q l)
 
-    back : {e : Definition} {k : ℕ} → Numbered e k (y ∷ ds₁) → (d : Definition) × Numbered d k (x ∷ ds) × (e .name ≡ d .name)
-    back (here q) = (x, here (q ∙ r .count), name)
+    back : {e : Definition} {k : ℕ} → Numbered e k (y ∷ ds₁) → (d : Definition) × Numbered d k (x ∷ ds) × Becomes d e
+    back (here q) = (x, here (q ∙ r .count), becomes)
     back (there q) = let f = r .from q in (f .0, there (f .1), f .2)
 
 -- a scan from the definitions ds to ds₁, where those from g .0 up to g .1 go: locked ones are kept, and each comes from one or is number m - 1
@@ -137,12 +137,12 @@ passesAll : (ds : List Definition) {m : ℕ} → Passes (length ds, length ds) d
 passesAll ds {m} = subst (Passes (length ds, length ds) ds m) (halves (length ds) ds) (passes (length ds) (length ds) idle (omega arith) (omega arith))
 
 -- and where DEF makes one
-passesMade : {g : ℕ × ℕ} {ds ds₁ : List Definition} (d : Definition) → isLocked (d .content) ≡ false
-    → Passes g ds (suc (length ds₁)) ds₁ → Passes g ds (suc (length ds₁)) (d ∷ ds₁)
-passesMade {g} {ds} {ds₁} d free P = record { keeps = λ p l n. there (P .keeps p l n); makes = λ p. make p }
+passesMade : {g : ℕ × ℕ} {ds ds₁ : List Definition} (n v : Bytes) → Passes g ds (suc (length ds₁)) ds₁
+    → Passes g ds (suc (length ds₁)) (defined n v ∷ ds₁)
+passesMade {g} {ds} {ds₁} n v P = record { keeps = λ p l n. there (P .keeps p l n); makes = λ p. make p }
   where
-    make : {j : ℕ} {e : Definition} → Numbered e j (d ∷ ds₁) → ComesFrom g ds (suc (length ds₁)) j e
-    make (here q) = made (ap suc q) free
+    make : {j : ℕ} {e : Definition} → Numbered e j (defined n v ∷ ds₁) → ComesFrom g ds (suc (length ds₁)) j e
+    make (here q) = made (ap suc q)
     make (there p) = P .makes p
 
 -- UPDATE and LOCK ----------------------------------------------------------------------------------------------------
@@ -157,8 +157,8 @@ unfolding altered
 altered-stays k h [] fair = idle
 altered-stays k h (x ∷ ds) fair =
     let y : Content → Definition = λ c. record { name = x .name; content = c } in
-    by (Stays (x ∷ ds)) (eqb k (length ds)) (λ t. stack x (y (changed h (x .content))) (λ l. ap y (fair x (here (eqb-true k (length ds) t)) l)) refl idle)
-    (λ t. stack x x (λ l. refl) refl (altered-stays k h ds (λ d p l. fair d (there p) l)))
+    by (Stays (x ∷ ds)) (eqb k (length ds)) (λ t. stack x (y (changed h (x .content))) (λ l. ap y (fair x (here (eqb-true k (length ds) t)) l)) (changes h) idle)
+    (λ t. stack x x (λ l. refl) unaltered (altered-stays k h ds (λ d p l. fair d (there p) l)))
 
 -- what is found is the definition with its number
 newest-content : (n : Bytes) (ds : List Definition) {k : ℕ} {c : Content} → newest n ds ≡ found k c → {d : Definition} → Numbered d k ds → d .content ≡ c
@@ -283,7 +283,7 @@ module _ (L : Limits) (W : Type 0) where
   perform-keeps (reads k v) c cs s fair f =
       let s₀ = S.withCalls (c ∷ cs) s in
       goesOn (λ w. remains s₀ cs (S.newBody k v c cs s₀ ∷ s .bodies) (omega arith) (omega arith))
-  perform-keeps (defines n v) c cs s fair f = goesOn (λ w. falls c cs s (passesMade (defined n v) refl (passesOldest (c .stood) idle (f w))))
+  perform-keeps (defines n v) c cs s fair f = goesOn (λ w. falls c cs s (passesMade n v (passesOldest (c .stood) idle (f w))))
   perform-keeps (gives bs) c [] s fair f =
       writingLeads L bs (S.withCalls (c ∷ []) s) (goesOn (λ w. falls c [] s (passesOldest (c .stood) idle (f w)))) (ended refl)
   perform-keeps (gives bs) c (o ∷ cs) s fair f =
@@ -386,7 +386,7 @@ pub scan-keeps : (L : Limits) (G : Language) {N : ℕ} {s s₁ : State} → Inva
     → Numbered d j (s₁ .standing .definitions)
 scan-keeps L G {s = s} i e p l n = onNext (scan-passes L G s) e (i .framed) .keeps p l n
 
--- every definition after a scan is one that stood, under its name, or the newest, made by DEF
+-- every definition after a scan is one that stood, as it was or altered by UPDATE or LOCK, or the newest, made by DEF
 pub scan-makes : (L : Limits) (G : Language) {N : ℕ} {s s₁ : State} → Invariant N s → S.scan L G s ≡ next s₁
     → {j : ℕ} {e : Definition} → Numbered e j (s₁ .standing .definitions)
     → ComesFrom (going s s₁) (s .standing .definitions) (length (s₁ .standing .definitions)) j e

@@ -52,13 +52,15 @@ changedMacro (updates v) x = record { value = v; room = x .room; locked = x .loc
 changedMacro locks x = record { value = x .value; room = x .room; locked = true }
 
 abbrev pub changed : Change → Content → Content
-changed h (macro x) = macro (changedMacro h x)
-changed h (builtIn b) = builtIn b
+changed change (macro x) = macro (changedMacro change x)
+changed change (builtIn b) = builtIn b
 
 -- "UPDATE alters the value where the definition stands", and LOCK "marks" it there: the definition with this number
 unfoldable pub altered : ℕ → Change → List Definition → List Definition
-altered k h [] = []
-altered k h (d ∷ ds) = let r = altered k h ds in cond (eqb k (length ds)) (record { name = d .name; content = changed h (d .content) } ∷ ds) (d ∷ r)
+altered k change [] = []
+altered k change (d ∷ ds) =
+    let r = altered k change ds in
+    cond (eqb k (length ds)) (record { name = d .name; content = changed change (d .content) } ∷ ds) (d ∷ r)
 
 -- the oldest n definitions: those that stood when there were n
 abbrev pub oldest : ℕ → List Definition → List Definition

@@ -7,8 +7,8 @@ use mathlib.Core.List.{List, [], _∷_}
 use mathlib.Core.Option.{Option, none, some}
 use lib.ListN.{length}
 use lib.Dec.{ltb}
-use Rattle.language.specs.Signs.{Language}
-use Rattle.language.specs.Definitions.{Content, macro, builtIn, Definition}
+use Rattle.language.specs.Signs.{Bytes, Language}
+use Rattle.language.specs.Definitions.{Content, macro, builtIn, Definition, defined, Change, changed}
 use Rattle.language.specs.Scanning.{Call, Body, State, next, Limits, scan}
 
 -- d has this number among the definitions, counted from the oldest
@@ -55,8 +55,13 @@ pub data StandsTo (L : Limits) (G : Language) (s₂ : State) (j : ℕ) : State �
   arrived : {k : ℕ} → k ≡ j → StandsTo L G s₂ j s₂ k
   goes : {s s₁ : State} {k i : ℕ} → scan L G s ≡ next s₁ → numberAfter (going s s₁) k ≡ some i → StandsTo L G s₂ j s₁ i → StandsTo L G s₂ j s k
 
--- a definition after a scan, where the definitions before it were ds and those from g .0 up to g .1 went: one that stood, under the
--- same name; or the newest, made by DEF and not locked
-pub data ComesFrom (g : ℕ × ℕ) (ds : List Definition) (count : ℕ) (j : ℕ) (e : Definition) : Type 0 where
-  stood : {k : ℕ} {d : Definition} → Numbered d k ds → numberAfter g k ≡ some j → e .name ≡ d .name → ComesFrom g ds count j e
-  made : suc j ≡ count → isLocked (e .content) ≡ false → ComesFrom g ds count j e
+-- a definition behind a scan: it is as it was, or UPDATE or LOCK has altered it
+pub data Becomes (d : Definition) : Definition → Type 0 where
+  unaltered : Becomes d d
+  changes : (change : Change) → Becomes d (record { name = d .name; content = changed change (d .content) })
+
+-- number j of the definitions behind a scan, so many, where ds stood before it and those from g .0 up to g .1 went: it stood
+-- before; or it is the newest, which DEF made
+pub data ComesFrom (g : ℕ × ℕ) (ds : List Definition) (count j : ℕ) : Definition → Type 0 where
+  stood : {k : ℕ} {d e : Definition} → Numbered d k ds → numberAfter g k ≡ some j → Becomes d e → ComesFrom g ds count j e
+  made : {n v : Bytes} → suc j ≡ count → ComesFrom g ds count j (defined n v)

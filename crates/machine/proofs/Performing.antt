@@ -33,7 +33,7 @@ use Rattle.language.proofs.Demand.{builtIns-free}
 use Rattle.memory.specs.Block.{block, placed, moved, copied, lowBytes}
 use Rattle.memory.proofs.Blocks.{moved-in, copied-in, length-lowBytes}
 use Rattle.machine.specs.declared.run.Run.{Run}
-use Rattle.machine.specs.Walks.{nowhere, headSize, nameLength, argument, chosen, newest, isRead, compare, calculate, isLocked, withLock, room, withValueLength}
+use Rattle.machine.specs.Walks.{nowhere, headSize, nameLength, valueLength, argument, chosen, newest, isRead, compare, calculate, withLock, room, withValueLength}
 use Rattle.machine.specs.Machine as M
 use Rattle.machine.proofs.Items.{encode-append, width-append}
 use Rattle.machine.proofs.Moves.{madeAll, madeLaid, madeBodies, madeValid}
@@ -212,10 +212,16 @@ module _ {n : ℕ} {whole start : List ℕ} {r : Run} {l o : List ℕ} {s : Stat
   refuseSim q t x F unknown e f m k = rw (builtInNamed-is x ∙ ap namedOf e, m) (refusing builtIns-free a Outcomes.notDefined)
   refuseSim q t x F (known j bi) e f m k = rw (builtInNamed-is x ∙ ap namedOf e, k j bi) (refusing builtIns-free a Outcomes.builtIn)
 
-  valSim : (long : 1 < length list)
-      → Simulates n builtIns whole start (M.val r (argument l name 1) (lent l o))
-      (S.perform (limitsOf n (length start)) (valueOf (D.newest (parameter 1 list) (s .standing .definitions))) c cs s)
-  valSim long = go (newest l (r .right) (r .source .list) q) (found′ q t x)
+  -- a name that is given is looked up: "15, 19", or what is done with the definition that is found
+  givenSim : (long : 1 < length list) (f : Found → Deed) → f missing ≡ faulty Outcomes.notDefined
+      → ((k : ℕ) (bi : BuiltIn) → f (found k (builtIn bi)) ≡ faulty Outcomes.builtIn) → (done : ℕ → M.After)
+      → ((d k : ℕ) (m : D.Macro) → Defines n b l (r .right) its d k (parameter 1 list) m → D.newest (parameter 1 list) (s .standing .definitions) ≡ found k (macro m)
+      → Simulates n builtIns whole start (done d) (S.perform (limitsOf n (length start)) (f (found k (macro m))) c cs s))
+      → Simulates n builtIns whole start
+      (cond (eqb (newest l (r .right) (r .source .list) (argument l name 1)) nowhere) (M.refuseName r (argument l name 1) (lent l o))
+      (done (newest l (r .right) (r .source .list) (argument l name 1))))
+      (S.perform (limitsOf n (length start)) (f (D.newest (parameter 1 list) (s .standing .definitions))) c cs s)
+  givenSim long f unfound builtin done does = go (newest l (r .right) (r .source .list) q) (found′ q t x)
     where
       q : ℕ
       q = argument l name 1
@@ -226,18 +232,24 @@ module _ {n : ℕ} {whole start : List ℕ} {r : Run} {l o : List ℕ} {s : Stat
       x : TextAt l q t
       x = textIs 1 long
 
-      go : (d : ℕ) → Newest n b l (r .right) its t d → Simulates n builtIns whole start (M.valOf r q d (lent l o)) (S.perform (limitsOf n (length start)) (valueOf (D.newest t (s .standing .definitions))) c cs s)
-      go d (absent e f) =
-          let g : D.newest t (s .standing .definitions) ≡ D.newest t builtIns = ap (D.newest t) definitionsAre ∙ f builtIns in
-          rw (e, g) (refuseSim q t x (D.newest t builtIns) (builtIns-only t) refl valueOf refl (λ k bi. refl))
-      go d (present {k} {c = m} at f) =
-          let g : D.newest t (s .standing .definitions) ≡ found k (macro m) = ap (D.newest t) definitionsAre ∙ f builtIns refl in
-          let v = m .value in
-          let from = d + headSize + length t in
-          let vo : Octets v = valueOctets t (s .standing .definitions) k m (oct .definitions) g in
-          let fit : from + length v ≤ n = omega (arith, at .within, at .cells .fits) in
-          rw (ne-eqb d nowhere (λ (e : d ≡ nowhere). absurd (omega (arith, at .below))), g, at .cells .named, at .cells .valued)
-          (blockSim from v fit (at .cells .valueIs) vo)
+      go : (d : ℕ) → Newest n b l (r .right) its t d
+          → Simulates n builtIns whole start (cond (eqb d nowhere) (M.refuseName r q (lent l o)) (done d)) (S.perform (limitsOf n (length start)) (f (D.newest t (s .standing .definitions))) c cs s)
+      go d (absent e h) =
+          let g : D.newest t (s .standing .definitions) ≡ D.newest t builtIns = ap (D.newest t) definitionsAre ∙ h builtIns in
+          rw (e, g) (refuseSim q t x (D.newest t builtIns) (builtIns-only t) refl f unfound builtin)
+      go d (present {k} {c = m} at h) =
+          let g : D.newest t (s .standing .definitions) ≡ found k (macro m) = ap (D.newest t) definitionsAre ∙ h builtIns refl in
+          rw (ne-eqb d nowhere (λ (e : d ≡ nowhere). absurd (omega (arith, at .below))), g) (does d k m at g)
+
+  valSim : (long : 1 < length list)
+      → Simulates n builtIns whole start (M.val r (argument l name 1) (lent l o))
+      (S.perform (limitsOf n (length start)) (valueOf (D.newest (parameter 1 list) (s .standing .definitions))) c cs s)
+  valSim long =
+      givenSim long valueOf refl (λ k bi. refl) (λ d. M.giveBlock r (d + headSize + nameLength l d) (valueLength l d) (lent l o)) λ d k m at g.
+      let from = d + headSize + length (parameter 1 list) in
+      let vo : Octets (m .value) = valueOctets (parameter 1 list) (s .standing .definitions) k m (oct .definitions) g in
+      let fit : from + length (m .value) ≤ n = omega (arith, at .within, at .cells .fits) in
+      rw (at .cells .named, at .cells .valued) (blockSim from (m .value) fit (at .cells .valueIs) vo)
 
   -- UPDATE and LOCK --------------------------------------------------------------------------------------------------
 
@@ -331,22 +343,14 @@ module _ {n : ℕ} {whole start : List ℕ} {r : Run} {l o : List ℕ} {s : Stat
       let spot = spotOf (at .at) in
       alterSim d k (m .value) spot locks tt (λ e value spare. refl) (withLock l d) (lockAlters spot holdsIts)
 
-  updateSim : (long : 2 < length list)
-      → Simulates n builtIns whole start (M.update r (argument l name 1) (argument l name 2) (lent l o))
-      (S.perform (limitsOf n (length start)) (updateOf (S.reading (s .bodies)) (parameter 2 list) (D.newest (parameter 1 list) (s .standing .definitions))) c cs s)
-  updateSim long = go (newest l (r .right) (r .source .list) q) (found′ q t x)
+  -- the definition that UPDATE found: 36, 20, 21, or its value
+  foundSim : (long : 2 < length list) (d k : ℕ) (m : D.Macro) → Defines n b l (r .right) its d k (parameter 1 list) m
+      → Simulates n builtIns whole start (M.updateAt r (argument l name 2) d (lent l o))
+      (S.perform (limitsOf n (length start)) (updateOf (S.reading (s .bodies)) (parameter 2 list) (found k (macro m))) c cs s)
+  foundSim long d k m at = rw (at .cells .locking, readEq) (unlocked (m .locked))
     where
-      q : ℕ
-      q = argument l name 1
-
-      t : Bytes
-      t = parameter 1 list
-
       w : Bytes
       w = parameter 2 list
-
-      x : TextAt l q t
-      x = textIs 1 (omega arith)
 
       y : TextAt l (argument l name 2) w
       y = textIs 2 long
@@ -354,67 +358,47 @@ module _ {n : ℕ} {whole start : List ℕ} {r : Run} {l o : List ℕ} {s : Stat
       busy : List ℕ
       busy = S.reading (s .bodies)
 
-      readEq : (d k : ℕ) (v : Bytes) → At n b its d k v → isRead l (r .source .list) (r .source .body) d ≡ among k busy
-      readEq d k v at =
-          isRead-finds gs gsValid holds listGs bodyGs (subst (λ (j : List Item). At n b j d k v) (sym (gsLaid .0)) at)
+      readEq : isRead l (r .source .list) (r .source .body) d ≡ among k busy
+      readEq =
+          isRead-finds gs gsValid holds listGs bodyGs (subst (λ (j : List Item). At n b j d k (m .value)) (sym (gsLaid .0)) (at .at))
           ∙ ap (λ (j : List Body). among k (S.reading j)) (madeBodies n b (a .since) (a .under) ∙ sym (a .bodiesAre))
 
-      go : (d : ℕ) → Newest n b l (r .right) its t d
-          → Simulates n builtIns whole start (M.updateOf r q (argument l name 2) d (lent l o)) (S.perform (limitsOf n (length start)) (updateOf busy w (D.newest t (s .standing .definitions))) c cs s)
-      go d (absent e f) =
-          let g : D.newest t (s .standing .definitions) ≡ D.newest t builtIns = ap (D.newest t) definitionsAre ∙ f builtIns in
-          rw (e, g) (refuseSim q t x (D.newest t builtIns) (builtIns-only t) refl (updateOf busy w) refl (λ k bi. refl))
-      go d (present {k} {c = m} at f) =
-          let g : D.newest t (s .standing .definitions) ≡ found k (macro m) = ap (D.newest t) definitionsAre ∙ f builtIns refl in
-          rw (ne-eqb d nowhere (λ (e : d ≡ nowhere). absurd (omega (arith, at .below))), g, at .cells .locking, readEq d k (m .value) (at .at)) (unlocked (m .locked))
-        where
-          fits : (z : Bool) → ltb (m .room) (length w) ≡ z → among k busy ≡ false
-              → Simulates n builtIns whole start (M.updateIn r (argument l name 2) d (lent l o))
-              (S.perform (limitsOf n (length start)) (cond z (faulty Outcomes.updateTooLong) (alters k (updates w))) c cs s)
-          fits true e h =
-              let test : ltb (room l d) (getD l (argument l name 2) 0) ≡ true = ap (λ (j : ℕ). ltb j (getD l (argument l name 2) 0)) (at .cells .roomy) ∙ ap (ltb (m .room)) (y .counted) ∙ e in
-              rw test (refusing builtIns-free a Outcomes.updateTooLong)
-          fits false e h =
-              let test : ltb (room l d) (getD l (argument l name 2) 0) ≡ false = ap (λ (j : ℕ). ltb j (getD l (argument l name 2) 0)) (at .cells .roomy) ∙ ap (ltb (m .room)) (y .counted) ∙ e in
-              rw test (storeSim d k m t w (argument l name 2) at y (ltb-false (m .room) (length w) e) h)
+      test : ltb (room l d) (getD l (argument l name 2) 0) ≡ ltb (m .room) (length w)
+      test = ap (λ (j : ℕ). ltb j (getD l (argument l name 2) 0)) (at .cells .roomy) ∙ ap (ltb (m .room)) (y .counted)
 
-          quiet : (z : Bool) → among k busy ≡ z
-              → Simulates n builtIns whole start (cond z (M.ends Outcomes.bodyBeingRead r (lent l o)) (M.updateIn r (argument l name 2) d (lent l o)))
-              (S.perform (limitsOf n (length start)) (cond z (faulty Outcomes.bodyBeingRead) (cond (ltb (m .room) (length w)) (faulty Outcomes.updateTooLong) (alters k (updates w)))) c cs s)
-          quiet true e = refusing builtIns-free a Outcomes.bodyBeingRead
-          quiet false e = fits (ltb (m .room) (length w)) refl e
+      fits : (z : Bool) → ltb (m .room) (length w) ≡ z → among k busy ≡ false
+          → Simulates n builtIns whole start (M.updateIn r (argument l name 2) d (lent l o))
+          (S.perform (limitsOf n (length start)) (cond z (faulty Outcomes.updateTooLong) (alters k (updates w))) c cs s)
+      fits true e h = rw (test ∙ e) (refusing builtIns-free a Outcomes.updateTooLong)
+      fits false e h = rw (test ∙ e) (storeSim d k m (parameter 1 list) w (argument l name 2) at y (ltb-false (m .room) (length w) e) h)
 
-          unlocked : (z : Bool)
-              → Simulates n builtIns whole start
-              (cond z (M.ends Outcomes.locked r (lent l o)) (cond (among k busy) (M.ends Outcomes.bodyBeingRead r (lent l o)) (M.updateIn r (argument l name 2) d (lent l o))))
-              (S.perform (limitsOf n (length start))
-              (cond z (faulty Outcomes.locked)
-              (cond (among k busy) (faulty Outcomes.bodyBeingRead) (cond (ltb (m .room) (length w)) (faulty Outcomes.updateTooLong) (alters k (updates w))))) c cs s)
-          unlocked true = refusing builtIns-free a Outcomes.locked
-          unlocked false = quiet (among k busy) refl
+      quiet : (z : Bool) → among k busy ≡ z
+          → Simulates n builtIns whole start (cond z (M.ends Outcomes.bodyBeingRead r (lent l o)) (M.updateIn r (argument l name 2) d (lent l o)))
+          (S.perform (limitsOf n (length start)) (cond z (faulty Outcomes.bodyBeingRead) (cond (ltb (m .room) (length w)) (faulty Outcomes.updateTooLong) (alters k (updates w)))) c cs s)
+      quiet true e = refusing builtIns-free a Outcomes.bodyBeingRead
+      quiet false e = fits (ltb (m .room) (length w)) refl e
+
+      unlocked : (z : Bool)
+          → Simulates n builtIns whole start
+          (cond z (M.ends Outcomes.locked r (lent l o)) (cond (among k busy) (M.ends Outcomes.bodyBeingRead r (lent l o)) (M.updateIn r (argument l name 2) d (lent l o))))
+          (S.perform (limitsOf n (length start))
+          (cond z (faulty Outcomes.locked)
+          (cond (among k busy) (faulty Outcomes.bodyBeingRead) (cond (ltb (m .room) (length w)) (faulty Outcomes.updateTooLong) (alters k (updates w))))) c cs s)
+      unlocked true = refusing builtIns-free a Outcomes.locked
+      unlocked false = quiet (among k busy) refl
+
+  updateSim : (long : 2 < length list)
+      → Simulates n builtIns whole start (M.update r (argument l name 1) (argument l name 2) (lent l o))
+      (S.perform (limitsOf n (length start)) (updateOf (S.reading (s .bodies)) (parameter 2 list) (D.newest (parameter 1 list) (s .standing .definitions))) c cs s)
+  updateSim long =
+      givenSim (omega arith) (updateOf (S.reading (s .bodies)) (parameter 2 list)) refl (λ k bi. refl) (λ d. M.updateAt r (argument l name 2) d (lent l o))
+      λ d k m at g. foundSim long d k m at
 
   lockSim : (long : 1 < length list)
       → Simulates n builtIns whole start (M.lock r (argument l name 1) (lent l o))
       (S.perform (limitsOf n (length start)) (lockOf (D.newest (parameter 1 list) (s .standing .definitions))) c cs s)
-  lockSim long = go (newest l (r .right) (r .source .list) q) (found′ q t x)
-    where
-      q : ℕ
-      q = argument l name 1
-
-      t : Bytes
-      t = parameter 1 list
-
-      x : TextAt l q t
-      x = textIs 1 long
-
-      go : (d : ℕ) → Newest n b l (r .right) its t d
-          → Simulates n builtIns whole start (M.lockOf r q d (lent l o)) (S.perform (limitsOf n (length start)) (lockOf (D.newest t (s .standing .definitions))) c cs s)
-      go d (absent e f) =
-          let g : D.newest t (s .standing .definitions) ≡ D.newest t builtIns = ap (D.newest t) definitionsAre ∙ f builtIns in
-          rw (e, g) (refuseSim q t x (D.newest t builtIns) (builtIns-only t) refl lockOf refl (λ k bi. refl))
-      go d (present {k} {c = m} at f) =
-          let g : D.newest t (s .standing .definitions) ≡ found k (macro m) = ap (D.newest t) definitionsAre ∙ f builtIns refl in
-          rw (ne-eqb d nowhere (λ (e : d ≡ nowhere). absurd (omega (arith, at .below))), g) (markSim d k m t at)
+  lockSim long =
+      givenSim long lockOf refl (λ k bi. refl) (λ d. M.lockIn r d (lent l o)) λ d k m at g. markSim d k m (parameter 1 list) at
 
   -- Arithmetic -------------------------------------------------------------------------------------------------------
 

@@ -415,11 +415,13 @@ updateIn r value d m =
       lent = withCells (withValueLength (moved (value + 1) (d + headSize + nameLength l d) (getD l value 0) l) d (getD l value 0)) m;
     })
 
+abbrev pub updateAt : Run → ℕ → ℕ → Lent → After
+updateAt r value d m =
+    cond (isLocked (m .cells) d) (ends Outcomes.locked r m)
+    (cond (isRead (m .cells) (r .source .list) (r .source .body) d) (ends Outcomes.bodyBeingRead r m) (updateIn r value d m))
+
 abbrev pub updateOf : Run → ℕ → ℕ → ℕ → Lent → After
-updateOf r name value d m =
-    cond (eqb d nowhere) (refuseName r name m)
-    (cond (isLocked (m .cells) d) (ends Outcomes.locked r m)
-    (cond (isRead (m .cells) (r .source .list) (r .source .body) d) (ends Outcomes.bodyBeingRead r m) (updateIn r value d m)))
+updateOf r name value d m = cond (eqb d nowhere) (refuseName r name m) (updateAt r value d m)
 
 abbrev pub update : Run → ℕ → ℕ → Lent → After
 update r name value m = updateOf r name value (newest (m .cells) (r .right) (r .source .list) name) m
