@@ -348,7 +348,7 @@ module _ {n base d k : ℕ} {its : List Item} {v : Bytes} (s : Spot n base its d
             ∙ rw (items, encode-append, drop-append-le (length w) (v ++ s .spare) (encode (s .older)) (omega (arith, length-append v (s .spare))), sameRoom) (simp append-assoc);
       }
 
-  -- LOCK: the mark
+  -- LOCK: the lock
   pub lockAlters : Alters k locks base its right l (withLock l d)
   unfolding encode
   lockAlters =

@@ -336,10 +336,10 @@ module _ {n : ℕ} {whole start : List ℕ} {r : Run} {l o : List ℕ} {s : Stat
       (moved-in (y + 1) target (length w) l (x .within) (omega (arith, at .within, a .lies .stands .size)) ∙ ap (λ (j : List ℕ). placed target j l) (x .bytes)) in
       rw cellsEq (alterSim d k v spot (updates w) fit (λ e. absurd (true≢false (sym e ∙ quiet))) (stored d (spot .name) w l) (updateAlters spot holdsIts w fit))
 
-  -- the mark where it stands, its body being read or not
-  markSim : (d k : ℕ) (m : D.Macro) (t : Bytes) → Defines n b l (r .right) its d k t m
+  -- the lock is set where it stands, its body being read or not
+  lockInSim : (d k : ℕ) (m : D.Macro) (t : Bytes) → Defines n b l (r .right) its d k t m
       → Simulates n builtIns whole start (M.lockIn r d (lent l o)) (S.perform (limitsOf n (length start)) (alters k locks) c cs s)
-  markSim d k m t at =
+  lockInSim d k m t at =
       let spot = spotOf (at .at) in
       alterSim d k (m .value) spot locks tt (λ e value spare. refl) (withLock l d) (lockAlters spot holdsIts)
 
@@ -398,7 +398,7 @@ module _ {n : ℕ} {whole start : List ℕ} {r : Run} {l o : List ℕ} {s : Stat
       → Simulates n builtIns whole start (M.lock r (argument l name 1) (lent l o))
       (S.perform (limitsOf n (length start)) (lockOf (D.newest (parameter 1 list) (s .standing .definitions))) c cs s)
   lockSim long =
-      givenSim long lockOf refl (λ k bi. refl) (λ d. M.lockIn r d (lent l o)) λ d k m at g. markSim d k m (parameter 1 list) at
+      givenSim long lockOf refl (λ k bi. refl) (λ d. M.lockIn r d (lent l o)) λ d k m at g. lockInSim d k m (parameter 1 list) at
 
   -- Arithmetic -------------------------------------------------------------------------------------------------------
 

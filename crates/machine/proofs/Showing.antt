@@ -61,7 +61,7 @@ pub read-behind-a-list : definitionsHeld twofold 0 0 ≡ empty 2 ∷ []
 unfolding definitionsHeldFrom
 read-behind-a-list = refl
 
--- name, value, defined length and mark, from the cells before them
+-- name, value, defined length and lock, from the cells before them
 pub read-whole : definitionsHeld (7 ∷ 0 ∷ 2 ∷ 3 ∷ 1 ∷ 107 ∷ 109 ∷ 97 ∷ 98 ∷ 99 ∷ 1 ∷ 1 ∷ 0 ∷ 0 ∷ 107 ∷ []) 1 nowhere
     ≡ record { name = 107 ∷ 109 ∷ []; content = macro (record { value = 97 ∷ []; room = 3; locked = false }) }
     ∷ record { name = 107 ∷ []; content = macro (record { value = []; room = 0; locked = true }) }

@@ -20,7 +20,7 @@ use Rattle.machine.specs.Machine.{After}
 
 -- The definitions in the cells ---------------------------------------------------------------------------------------
 
--- the definition at a position: "name, value and defined length", and the mark
+-- the definition at a position: "name, value and defined length", and whether it is locked
 abbrev pub definitionAt : List ℕ → ℕ → Definition
 definitionAt l p = record {
   name = block (p + headSize) (nameLength l p) l;

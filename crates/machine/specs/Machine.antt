@@ -444,7 +444,7 @@ choose r name m = chooseAt r name (chosen (m .cells) name) m
 
 -- the built-in that has its parameters, the list of its call being at `name`: "Surplus parameters are ignored." IF has none that
 -- are surplus
--- LOCK: the mark where the definition stands, and the list gone
+-- LOCK: the lock is set where the definition stands, and the list goes
 abbrev pub lockIn : Run → ℕ → Lent → After
 lockIn r d m = let a = release r 0 m in record { run = a .run; answer = a .answer; lent = withCells (withLock (m .cells) d) m }
 

@@ -253,7 +253,7 @@ impl Run {
         self.give_block(second + 1, count, cells, output)
     }
 
-    // LOCK marks the newest definition of the name where it stands.
+    // LOCK locks the newest definition of the name where it stands.
     fn lock(self, name: usize, cells: &mut [u32]) -> Stepped
         requires { ⌜ (Marked (length (now cells)) self) × (name ≤ 8589934592) ⌝ }
         ensures { λ r. ⌜ ((o : List ℕ) → leaves r (lent (now (cells .exit)) o) ≡ lock self name (lent (now (cells .entry)) o)) ⌝ }

@@ -1,4 +1,4 @@
--- The newest definition of the name is marked, and the list goes.
+-- The newest definition of the name is locked, and the list goes.
 use borrow.Author.Tests.{eq-eqb, ne-eqb}
 use borrow.Author.Needs.{needs}
 use Rattle.machine.proofs.run.Run.lock.Statement.{statement}
