@@ -1,5 +1,6 @@
 pub mod Lists
 pub mod Prices
+pub mod Groups
 pub mod Accepted
 pub mod Deeds
 pub mod Leads

@@ -28,26 +28,26 @@ Trace = String × ℕ × ℕ × ℕ × String × String × List ℕ × List ℕ 
 abbrev traces : List Trace
 traces =
     -- the stored cases
-    ("each rule", 60, 8, 99, "a,$DEF,v,V;$DEF,k,<b,~1$VAL,v;$SIZE,xx;>;$k,c;$IF,1,<d>;", "a,b,cV2d", 1 ∷ 2 ∷ 46 ∷ 46 ∷ 46 ∷ 46 ∷ 46 ∷ 56 ∷ [], 1 ∷ 1 ∷ 2 ∷ 2 ∷ 3 ∷ 4 ∷ 5 ∷ 5 ∷ [], report 0 56 8 77 51 2) ∷
+    ("each rule", 60, 8, 99, "a,$DEF,v,V;$DEF,k,<b,~1$VAL,v;$SIZE,xx;>;$k,c;$IF,1,<d>;", "a,b,cV2d", 1 ∷ 2 ∷ 46 ∷ 46 ∷ 46 ∷ 46 ∷ 46 ∷ 56 ∷ [], 1 ∷ 1 ∷ 2 ∷ 2 ∷ 3 ∷ 4 ∷ 5 ∷ 5 ∷ [], report 0 56 8 77 53 2) ∷
     ("a quoted stretch", 0, 6, 99, "x<y,z>~1", "xy,z~1", 1 ∷ 3 ∷ 4 ∷ 5 ∷ 7 ∷ 8 ∷ [], 1 ∷ 1 ∷ 1 ∷ 1 ∷ 1 ∷ 1 ∷ [], report 0 8 6 9 0 0) ∷
-    ("parameters of two bytes", 30, 10, 99, "$DEF,k,<(~1)>;$k,ab;$k,$k,cd;;", "(ab)((cd))", 20 ∷ 20 ∷ 20 ∷ 20 ∷ 30 ∷ 30 ∷ 30 ∷ 30 ∷ 30 ∷ 30 ∷ [], 2 ∷ 3 ∷ 3 ∷ 2 ∷ 2 ∷ 3 ∷ 3 ∷ 3 ∷ 3 ∷ 2 ∷ [], report 0 30 10 43 28 1) ∷
-    ("up to a fault", 30, 3, 99, "ab$DEF,k,<c$j;>;$k;", "abc", 1 ∷ 2 ∷ 19 ∷ [], 1 ∷ 1 ∷ 2 ∷ [], report 15 19 3 23 21 1) ∷
+    ("parameters of two bytes", 30, 10, 99, "$DEF,k,<(~1)>;$k,ab;$k,$k,cd;;", "(ab)((cd))", 20 ∷ 20 ∷ 20 ∷ 20 ∷ 30 ∷ 30 ∷ 30 ∷ 30 ∷ 30 ∷ 30 ∷ [], 2 ∷ 3 ∷ 3 ∷ 2 ∷ 2 ∷ 3 ∷ 3 ∷ 3 ∷ 3 ∷ 2 ∷ [], report 0 30 10 43 29 1) ∷
+    ("up to a fault", 30, 3, 99, "ab$DEF,k,<c$j;>;$k;", "abc", 1 ∷ 2 ∷ 19 ∷ [], 1 ∷ 1 ∷ 2 ∷ [], report 15 19 3 23 22 1) ∷
     ("nothing written", 20, 0, 99, "$DEF,k,v;", "", [], [], report 0 9 0 10 12 1) ∷
     -- what each rule takes in
     ("signs that are copied, and inner quotes", 0, 8, 99, "a;~<b<c>>", "a;~b<c>.", 1 ∷ 2 ∷ 3 ∷ 5 ∷ 6 ∷ 7 ∷ 8 ∷ 80 ∷ [], 1 ∷ 1 ∷ 1 ∷ 1 ∷ 1 ∷ 1 ∷ 1 ∷ 90 ∷ [], report 0 9 7 10 0 0) ∷
-    ("quotes and commas in a body", 30, 6, 99, "$DEF,k,<a,<<b,~1>>>;$k;", "a,<b,~", 23 ∷ 23 ∷ 23 ∷ 23 ∷ 23 ∷ 23 ∷ [], 2 ∷ 2 ∷ 2 ∷ 2 ∷ 2 ∷ 2 ∷ [], report 5 23 6 31 21 1) ∷
-    ("the name, fetched", 20, 2, 99, "$DEF,k,<~0>;$k;", "k.", 15 ∷ 80 ∷ [], 3 ∷ 90 ∷ [], report 0 15 1 18 13 1) ∷
-    ("VAL's value, collected and fetched", 40, 1, 99, "$DEF,v,V;$DEF,k,<~1>;$k,$VAL,v;;", "V", 32 ∷ [], 3 ∷ [], report 0 32 1 35 30 2) ∷
-    ("VAL in an argument, IF given", 40, 1, 99, "$DEF,v,V;$IF,1,$VAL,v;;", "V", 23 ∷ [], 5 ∷ [], report 0 23 1 24 26 1) ∷
-    ("VAL hidden by a definition", 30, 2, 99, "$DEF,VAL,<x~1>;$VAL,k;", "xk", 22 ∷ 22 ∷ [], 2 ∷ 3 ∷ [], report 0 22 2 26 20 1) ∷
+    ("quotes and commas in a body", 30, 6, 99, "$DEF,k,<a,<<b,~1>>>;$k;", "a,<b,~", 23 ∷ 23 ∷ 23 ∷ 23 ∷ 23 ∷ 23 ∷ [], 2 ∷ 2 ∷ 2 ∷ 2 ∷ 2 ∷ 2 ∷ [], report 5 23 6 31 22 1) ∷
+    ("the name, fetched", 20, 2, 99, "$DEF,k,<~0>;$k;", "k.", 15 ∷ 80 ∷ [], 3 ∷ 90 ∷ [], report 0 15 1 18 14 1) ∷
+    ("VAL's value, collected and fetched", 40, 1, 99, "$DEF,v,V;$DEF,k,<~1>;$k,$VAL,v;;", "V", 32 ∷ [], 3 ∷ [], report 0 32 1 35 32 2) ∷
+    ("VAL in an argument, IF given", 40, 1, 99, "$DEF,v,V;$IF,1,$VAL,v;;", "V", 23 ∷ [], 5 ∷ [], report 0 23 1 24 27 1) ∷
+    ("VAL hidden by a definition", 30, 2, 99, "$DEF,VAL,<x~1>;$VAL,k;", "xk", 22 ∷ 22 ∷ [], 2 ∷ 3 ∷ [], report 0 22 2 26 21 1) ∷
     ("the other built-ins", 30, 5, 99, "$+,1,2;$SEQ,a,a;$SIZE,b;$Rem,9,5;$-,3,3;", "31140", 7 ∷ 16 ∷ 24 ∷ 33 ∷ 40 ∷ [], 5 ∷ 5 ∷ 5 ∷ 5 ∷ 5 ∷ [], report 0 40 5 41 12 0) ∷
-    ("a body in a body", 40, 4, 99, "$DEF,b,z;$DEF,a,<x$b;y>;.$a;", ".xzy", 25 ∷ 28 ∷ 28 ∷ 28 ∷ [], 1 ∷ 2 ∷ 2 ∷ 2 ∷ [], report 0 28 4 37 28 2) ∷
+    ("a body in a body", 40, 4, 99, "$DEF,b,z;$DEF,a,<x$b;y>;.$a;", ".xzy", 25 ∷ 28 ∷ 28 ∷ 28 ∷ [], 1 ∷ 2 ∷ 2 ∷ 2 ∷ [], report 0 28 4 37 30 2) ∷
     -- places that are not written
     ("places past the written count", 0, 4, 99, "ab", "ab..", 1 ∷ 2 ∷ 80 ∷ 80 ∷ [], 1 ∷ 1 ∷ 90 ∷ 90 ∷ [], report 0 2 2 3 0 0) ∷
     ("both longer", 0, 2, 99, "ab", "ab", 1 ∷ 2 ∷ 80 ∷ 80 ∷ 80 ∷ [], 1 ∷ 1 ∷ 90 ∷ 90 ∷ 90 ∷ 90 ∷ 90 ∷ 90 ∷ 90 ∷ [], report 0 2 2 3 0 0) ∷
     ("3, the scans made", 0, 3, 2, "abc", "ab.", 1 ∷ 2 ∷ 80 ∷ [], 1 ∷ 1 ∷ 90 ∷ [], report 3 2 2 2 0 0) ∷
     ("4, the scan that is refused", 3, 3, 99, "ab$k;", "ab.", 1 ∷ 2 ∷ 80 ∷ [], 1 ∷ 1 ∷ 90 ∷ [], report 4 3 2 3 0 0) ∷
-    ("5, a parameter whole or not at all", 20, 2, 99, "a$DEF,k,<~1>;$k,bc;", "a.", 1 ∷ 80 ∷ [], 1 ∷ 90 ∷ [], report 5 19 1 20 16 1) ∷
+    ("5, a parameter whole or not at all", 20, 2, 99, "a$DEF,k,<~1>;$k,bc;", "a.", 1 ∷ 80 ∷ [], 1 ∷ 90 ∷ [], report 5 19 1 20 17 1) ∷
     []
 
 abbrev lends : Table → ℕ → Bytes → ℕ → ℕ → ℕ → Bytes → GivenNumbers

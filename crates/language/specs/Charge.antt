@@ -26,9 +26,10 @@ collectedPrice ended hand = openPrice + (argumentsPrice ended + length hand)
 abbrev pub listPrice : List Bytes → ℕ
 listPrice list = openPrice + argumentsPrice list
 
--- "A live definition is charged name length + defined value length + 4." "Built-ins cost nothing."
+-- "A live definition is charged name length + defined value length + 4." "Built-ins cost nothing." Document 02, Thirteen:
+-- "A definition is charged 5 in place of 4", in that sum.
 abbrev pub contentPrice : ℕ → Content → ℕ
-contentPrice n (macro x) = n + x .room + 4
+contentPrice n (macro x) = n + x .room + 5
 contentPrice n (builtIn b) = 0
 
 abbrev pub definitionPrice : Definition → ℕ

@@ -4,6 +4,7 @@ pub mod Refusals
 pub mod Definitions
 pub mod BuiltIns
 pub mod Charge
+pub mod Groups
 pub mod Ends
 pub mod Scanning
 pub mod Substitution
