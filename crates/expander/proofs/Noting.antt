@@ -16,6 +16,8 @@ use Rattle.language.specs.Scanning as S
 use Rattle.language.specs.Expansion.{Lent, given, Returned, refusals, overwritten, expanded}
 use Rattle.language.specs.Origins.{origins, readsOf, rulesOf, Numbers, numbers, GivenNumbers, ReturnedNumbers, returnedWith, shortNumbers, noted, answeredWith, expandedOrigins, ExpandedOrigins}
 use Rattle.language.proofs.Origins.{accepted-as, ordinary, origins-expanded}
+use Rattle.language.specs.Groups.{groups}
+use Rattle.machine.specs.Index.{noHeads}
 use Rattle.machine.specs.Machine.{fresh, lastScan}
 use Rattle.machine.specs.Origins.{Notes}
 use Rattle.machine.proofs.Fresh.{freshHolds}
@@ -29,7 +31,7 @@ fromFirst xs l = ap (λ (k : ℕ). xs ++ drop k l) (zero-add (length xs))
 
 -- what the machine noted from its fresh standing are the origins of the run
 pub noted-all : (T : Table) (text : Bytes) (allowance : ℕ) (m : Lent) (ns ns′ : Numbers)
-    → Notes T text allowance (fresh (length (m .cells))) m ns ns′ → length (m .cells) ≤ cellsLimit → length text ≤ textLimit → Octets text → allowance ≤ lastScan
+    → Notes T text allowance (fresh (length (m .cells))) (noHeads groups) m ns ns′ → length (m .cells) ≤ cellsLimit → length text ≤ textLimit → Octets text → allowance ≤ lastScan
     → NotedIn (given T text m allowance) ns ns′
 noted-all T text allowance m ns ns′ h small short oct fits long =
     let x = freshHolds text m small oct in

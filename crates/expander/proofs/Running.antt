@@ -13,6 +13,7 @@ use Rattle.language.specs.Signs.{Bytes, Table, language, textLimit, cellsLimit,
 use Rattle.language.specs.Outcomes
 use Rattle.language.specs.Refusals.{refusedBy, sizesTooLarge, AcceptedTable}
 use Rattle.language.specs.Definitions.{Definition, live}
+use Rattle.language.specs.Groups.{groups}
 use Rattle.language.specs.BuiltIns.{builtIns}
 use Rattle.language.specs.Charge.{definitionsPrice}
 use Rattle.language.specs.Ends.{End, reported}
@@ -25,8 +26,8 @@ use Rattle.language.proofs.Accepted.{lent-accepted, accepted-exactly}
 use Rattle.language.proofs.Demand.{builtIns-free, demand3, substitutes}
 use Rattle.machine.specs.declared.run.Stepped.{Stepped}
 use Rattle.machine.specs.Machine.{fresh, lastScan}
-use Rattle.machine.specs.Walks.{nextPosition, nextList}
-use Rattle.machine.specs.Held.{definitionAt, definitionsHeldFrom, shown, standingOf, Shows}
+use Rattle.machine.specs.Index.{noHeads}
+use Rattle.machine.specs.Held.{nextPosition, nextList, definitionAt, definitionsHeldFrom, shown, standingOf, Shows}
 use Rattle.machine.specs.Moving.{Comes, Moves}
 use Rattle.machine.proofs.Fresh.{freshHolds}
 use Rattle.machine.proofs.Advancing.{range-in}
@@ -78,11 +79,11 @@ module _ (g : Given) (st : Stepped) (m : Lent) (from : g .definitions ≡ builtI
     left = subst (λ (x : End). m .output ≡ overwritten (x .output) (g .lent .output)) (sym came) (h .wrote .output);
   }
 
-pub ran : (T : Table) (text : Bytes) (allowance : ℕ) (m : Lent) (st : Stepped) (m′ : Lent)
-    → Moves T text allowance (fresh (length (m .cells))) m st m′ → length (m .cells) ≤ cellsLimit → Octets text → allowance ≤ lastScan
+pub ran : (T : Table) (text : Bytes) (allowance : ℕ) (m : Lent) (st : Stepped) (h′ : List ℕ) (m′ : Lent)
+    → Moves T text allowance (fresh (length (m .cells))) (noHeads groups) m st h′ m′ → length (m .cells) ≤ cellsLimit → Octets text → allowance ≤ lastScan
     → Ran (given T text m allowance) st m′
 unfolding S.run
-ran T text allowance m st m′ h small oct fits =
+ran T text allowance m st h′ m′ h small oct fits =
     let x = freshHolds text m small oct in
     let a = h .advanced (range-in _ _ _ (x .inRange)) in
     let all : min allowance (lastScan - 0) ≡ allowance = omega arith in
@@ -90,7 +91,7 @@ ran T text allowance m st m′ h small oct fits =
     (rw all at (a .moves (m .output) (S.start text builtIns) x)) in
     ranTo (given T text m allowance) st m′ refl (r .0) (r .1)
   where
-    go : (t : Step) → Comes text (m .output) st m′ t
+    go : (t : Step) → Comes h′ text (m .output) st m′ t
         → (outcomeOf (st .answer) ≡ S.endOf t .outcome) × Shows builtIns (m .output) (st .run) m′ (standingOf (S.endOf t))
     go (next s) (e, y) = (rw e, stateShown (y .represents))
     go (stop e) y = (rw (y .answer), y .shows)

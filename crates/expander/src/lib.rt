@@ -3,6 +3,7 @@ use language::Sizes;
 use language::outcomes;
 use language::refusals::Verdict;
 use language::rules;
+use machine::index;
 use machine::run::Answer;
 use machine::run::Run;
 use machine::run::Stepped;
@@ -215,7 +216,18 @@ fn run_to_end(
     ensures { λ r. ⌜ Ran (given (now (kinds .entry)) (now (text .entry)) (lent (now (cells .entry)) (now (output .entry))) allowance) r (lent (now (cells .exit)) (now (output .exit))) × NotedIn (given (now (kinds .entry)) (now (text .entry)) (lent (now (cells .entry)) (now (output .entry))) allowance) (numbers (now (origins .entry)) (now (rules .entry))) (numbers (now (origins .exit)) (now (rules .exit))) ⌝ }
 {
     let run = Run::new(cells.len());
-    machine::go_on(run, kinds, text, cells, output, origins, rules, allowance)
+    let mut heads = [index::NO_DEFINITION; 64];
+    machine::go_on(
+        run,
+        kinds,
+        text,
+        &mut heads,
+        cells,
+        output,
+        origins,
+        rules,
+        allowance,
+    )
 }
 
 impl Report {

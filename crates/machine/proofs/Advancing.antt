@@ -3,6 +3,7 @@ use Prim.Native.Nat.{ℕ, suc, _+_, _-_, _≤_, _<_}
 use native.Mathlib.Omega.{arith}
 use mathlib.Core.Path.{_≡_, refl, sym, ap, subst, _∙_}
 use mathlib.Core.Bool.{Bool, true, false, cond, true≢false}
+use mathlib.Core.List.{List}
 use lib.ListN.{length, getD}
 use lib.Dec.{eqb, ltb}
 use borrow.Author.Tests.{ltb-false, leb-true, le-ltb, le-leb, eqb-true, eq-eqb}
@@ -13,7 +14,7 @@ use Rattle.machine.specs.declared.run.Answer.{Answer}
 use Rattle.machine.specs.declared.run.Answer.the-variants.{GoesOn, Refused}
 use Rattle.machine.specs.declared.run.Stepped.{Stepped}
 use Rattle.machine.specs.Machine as M
-use Rattle.machine.specs.Machine.{After, Ready, InRange, lastScan}
+use Rattle.machine.specs.Machine.{Ready, InRange, lastScan}
 use Rattle.machine.specs.Moving.{isInRange, Advances}
 use Rattle.machine.proofs.Keeping.{Kept, stepKept}
 use Rattle.machine.proofs.Steps.{steps-ended, steps-add, moving}
@@ -85,7 +86,7 @@ range-in r n k h =
 
 module _ (T : Table) (text : Bytes) (n k : ℕ) where
   -- what the loop keeps until so many scans are made: r₀ and m₀ stood before its first one
-  pub record Going (r₀ : Run) (m₀ : Lent) (due₀ : ℕ) (r : Run) (m : Lent) (until : ℕ) : Type 0 where
+  pub record Going (r₀ : Run) (h₀ : List ℕ) (m₀ : Lent) (due₀ : ℕ) (r : Run) (h : List ℕ) (m : Lent) (until : ℕ) : Type 0 where
     pub cells : length (m .cells) ≡ n
     pub output : length (m .output) ≡ k
     pub small : (i : ℕ) → getD (m .cells) i 0 < 4294967296
@@ -93,56 +94,56 @@ module _ (T : Table) (text : Bytes) (n k : ℕ) where
     pub counted : until ≤ lastScan
     pub notPast : r .counts .scans ≤ until
     pub all : until ≡ r₀ .counts .scans + due₀
-    pub made : M.steps due₀ T text (M.goes r₀ m₀) ≡ M.steps (until - r .counts .scans) T text (M.goes r m)
+    pub made : M.steps due₀ T text (M.keeping h₀ (M.goes r₀ m₀)) ≡ M.steps (until - r .counts .scans) T text (M.keeping h (M.goes r m))
 
-  pub begins : (r : Run) (m : Lent) (due : ℕ) → length (m .cells) ≡ n → length (m .output) ≡ k → ((i : ℕ) → getD (m .cells) i 0 < 4294967296)
-      → InRange n k r → r .counts .scans + due ≤ lastScan → Going r m due r m (r .counts .scans + due)
-  begins r m due c o b h t =
+  pub begins : (r : Run) (h : List ℕ) (m : Lent) (due : ℕ) → length (m .cells) ≡ n → length (m .output) ≡ k → ((i : ℕ) → getD (m .cells) i 0 < 4294967296)
+      → InRange n k r → r .counts .scans + due ≤ lastScan → Going r h m due r h m (r .counts .scans + due)
+  begins r h m due c o b i t =
       let all : due ≡ r .counts .scans + due - r .counts .scans = omega arith in
       record {
         cells = c;
         output = o;
         small = b;
-        inRange = h;
+        inRange = i;
         counted = t;
         notPast = omega arith;
         all = refl;
-        made = ap (λ (j : ℕ). M.steps j T text (M.goes r m)) all;
+        made = ap (λ (j : ℕ). M.steps j T text (M.keeping h (M.goes r m))) all;
       }
 
   -- what so many scans leave is what is promised
-  advances : {r₀ : Run} {m₀ m′ : Lent} {due₀ : ℕ} {st : Stepped} → M.leaves st m′ ≡ M.steps due₀ T text (M.goes r₀ m₀)
+  advances : {r₀ : Run} {h₀ h′ : List ℕ} {m₀ m′ : Lent} {due₀ : ℕ} {st : Stepped} → M.leavesIndexed st m′ h′ ≡ M.steps due₀ T text (M.keeping h₀ (M.goes r₀ m₀))
       → length (m₀ .cells) ≡ n → length (m₀ .output) ≡ k → length (m′ .cells) ≡ n → length (m′ .output) ≡ k
       → (st .answer ≡ Refused → ⊥) → (st .answer ≡ GoesOn → InRange n k (st .run))
-      → Advances T text due₀ r₀ m₀ st m′ × (M.leaves st m′ ≡ M.steps due₀ T text (M.goes r₀ m₀))
-  advances {r₀} {m₀} {m′} {due₀} {st} is c o cs os told ranged =
+      → Advances T text due₀ r₀ h₀ m₀ st h′ m′ × (M.leavesIndexed st m′ h′ ≡ M.steps due₀ T text (M.keeping h₀ (M.goes r₀ m₀)))
+  advances {r₀} {h₀} {h′} {m₀} {m′} {due₀} {st} is c o cs os told ranged =
       let inside : st .answer ≡ GoesOn → InRange (length (m₀ .cells)) (length (m₀ .output)) (st .run) = λ q. rw (c, o) (ranged q) in
-      (record { answered = told; ranged = inside; moves = moving T text due₀ r₀ m₀ st m′ is (cs ∙ sym c) (os ∙ sym o) inside }, is)
+      (record { answered = told; ranged = inside; moves = moving T text due₀ r₀ h₀ m₀ st h′ m′ is (cs ∙ sym c) (os ∙ sym o) inside }, is)
 
-  module _ {r₀ r : Run} {m₀ m : Lent} {due₀ until : ℕ} (g : Going r₀ m₀ due₀ r m until) (some : r .counts .scans < until)
-      (a : After) (e : a ≡ M.step r T text m) (cs : length (a .lent .cells) ≡ n) (os : length (a .lent .output) ≡ k) where
-    kept : Kept n k (r .counts .scans + 1) a
+  module _ {r₀ r : Run} {h₀ h : List ℕ} {m₀ m : Lent} {due₀ until : ℕ} (g : Going r₀ h₀ m₀ due₀ r h m until) (some : r .counts .scans < until)
+      (a : M.Indexed) (e : a ≡ M.step r T text h m) (cs : length (a .after .lent .cells) ≡ n) (os : length (a .after .lent .output) ≡ k) where
+    kept : Kept n k (r .counts .scans + 1) (a .after)
     kept =
-        subst (Kept n k (r .counts .scans + 1)) (sym e)
-        (subst (λ (j : ℕ). Kept j k (r .counts .scans + 1) (M.step r T text m)) (g .cells)
-        (subst (λ (j : ℕ). Kept (length (m .cells)) j (r .counts .scans + 1) (M.step r T text m)) (g .output)
-        (stepKept m (g .small) r T text
+        subst (λ (y : M.Indexed). Kept n k (r .counts .scans + 1) (y .after)) (sym e)
+        (subst (λ (j : ℕ). Kept j k (r .counts .scans + 1) (M.step r T text h m .after)) (g .cells)
+        (subst (λ (j : ℕ). Kept (length (m .cells)) j (r .counts .scans + 1) (M.step r T text h m .after)) (g .output)
+        (stepKept m h (g .small) r T text
         (subst (λ (j : ℕ). InRange (length (m .cells)) j r) (sym (g .output)) (subst (λ (j : ℕ). InRange j k r) (sym (g .cells)) (g .inRange))))))
 
     -- one scan, and what is due behind it
-    stepped : M.steps due₀ T text (M.goes r₀ m₀) ≡ M.steps (until - (r .counts .scans + 1)) T text a
+    stepped : M.steps due₀ T text (M.keeping h₀ (M.goes r₀ m₀)) ≡ M.steps (until - (r .counts .scans + 1)) T text a
     unfolding M.steps
     stepped =
         let more : until - r .counts .scans ≡ suc (until - (r .counts .scans + 1)) = omega arith in
         g .made
-        ∙ ap (λ (j : ℕ). M.steps j T text (M.goes r m)) more
-        ∙ ap (λ (y : After). M.steps (until - (r .counts .scans + 1)) T text y) (sym e)
+        ∙ ap (λ (j : ℕ). M.steps j T text (M.keeping h (M.goes r m))) more
+        ∙ ap (λ (y : M.Indexed). M.steps (until - (r .counts .scans + 1)) T text y) (sym e)
 
     -- one more scan is made
-    pub onceMore : a .answer ≡ GoesOn → a .run .counts .scans ≡ r .counts .scans + 1
+    pub onceMore : a .after .answer ≡ GoesOn → a .after .run .counts .scans ≡ r .counts .scans + 1
     onceMore out = kept .counted out
 
-    pub again : ((i : ℕ) → getD (a .lent .cells) i 0 < 4294967296) → a .answer ≡ GoesOn → Going r₀ m₀ due₀ (a .run) (a .lent) until
+    pub again : ((i : ℕ) → getD (a .after .lent .cells) i 0 < 4294967296) → a .after .answer ≡ GoesOn → Going r₀ h₀ m₀ due₀ (a .after .run) (a .heads) (a .after .lent) until
     again b out = record {
       cells = cs;
       output = os;
@@ -153,52 +154,52 @@ module _ (T : Table) (text : Bytes) (n k : ℕ) where
       all = g .all;
       made =
           stepped
-          ∙ ap (λ (y : Answer). M.steps (until - (r .counts .scans + 1)) T text (record { run = a .run; answer = y; lent = a .lent })) out
-          ∙ ap (λ (j : ℕ). M.steps (until - j) T text (M.goes (a .run) (a .lent))) (sym (kept .counted out));
+          ∙ ap (λ (y : Answer). M.steps (until - (r .counts .scans + 1)) T text (M.keeping (a .heads) (record { run = a .after .run; answer = y; lent = a .after .lent }))) out
+          ∙ ap (λ (j : ℕ). M.steps (until - j) T text (M.keeping (a .heads) (M.goes (a .after .run) (a .after .lent)))) (sym (kept .counted out));
     }
 
-    pub ends : (st : Stepped) (m′ : Lent) → a ≡ M.leaves st m′ → (a .answer ≡ GoesOn → ⊥) → length (m₀ .cells) ≡ n → length (m₀ .output) ≡ k
-        → Advances T text due₀ r₀ m₀ st m′ × (M.leaves st m′ ≡ M.steps due₀ T text (M.goes r₀ m₀)) × (st .answer ≡ GoesOn → st .run .counts .scans ≡ r₀ .counts .scans + due₀)
-    ends st m′ is out c o =
-        let told : st .answer ≡ a .answer = ap (λ (j : After). j .answer) (sym is) in
-        let left : a .lent ≡ m′ = ap (λ (j : After). j .lent) is in
+    pub ends : (st : Stepped) (h′ : List ℕ) (m′ : Lent) → a ≡ M.leavesIndexed st m′ h′ → (a .after .answer ≡ GoesOn → ⊥) → length (m₀ .cells) ≡ n → length (m₀ .output) ≡ k
+        → Advances T text due₀ r₀ h₀ m₀ st h′ m′ × (M.leavesIndexed st m′ h′ ≡ M.steps due₀ T text (M.keeping h₀ (M.goes r₀ m₀))) × (st .answer ≡ GoesOn → st .run .counts .scans ≡ r₀ .counts .scans + due₀)
+    ends st h′ m′ is out c o =
+        let told : st .answer ≡ a .after .answer = ap (λ (j : M.Indexed). j .after .answer) (sym is) in
+        let left : a .after .lent ≡ m′ = ap (λ (j : M.Indexed). j .after .lent) is in
         let (is₁, is₂) = advances (sym (stepped ∙ steps-ended (until - (r .counts .scans + 1)) T text a out ∙ is)) c o
         (ap (λ (y : Lent). length (y .cells)) (sym left) ∙ cs) (ap (λ (y : Lent). length (y .output)) (sym left) ∙ os)
         (λ q. kept .told (sym told ∙ q)) (λ q. absurd (out (sym told ∙ q))) in
         (is₁, is₂, λ q. absurd (out (sym told ∙ q)))
 
   -- a scan can be made
-  pub readyOf : {r₀ r : Run} {m₀ m : Lent} {due₀ until : ℕ} → Going r₀ m₀ due₀ r m until → r .counts .scans < until
+  pub readyOf : {r₀ r : Run} {h₀ h : List ℕ} {m₀ m : Lent} {due₀ until : ℕ} → Going r₀ h₀ m₀ due₀ r h m until → r .counts .scans < until
       → Ready (length (m .cells)) r × (r .counts .scans < lastScan) × (r .counts .written ≤ length (m .output))
   readyOf {r = r} g some =
-      let h = g .inRange in
-      (subst (λ (j : ℕ). Ready j r) (sym (g .cells)) (h .ready), omega (arith, g .counted), omega (arith, h .written, g .output))
+      let i = g .inRange in
+      (subst (λ (j : ℕ). Ready j r) (sym (g .cells)) (i .ready), omega (arith, g .counted), omega (arith, i .written, g .output))
 
   -- the last scan that was due is made
-  pub done : {r₀ r : Run} {m₀ m : Lent} {due₀ until : ℕ} → Going r₀ m₀ due₀ r m until → until ≤ r .counts .scans → length (m₀ .cells) ≡ n → length (m₀ .output) ≡ k
-      → Advances T text due₀ r₀ m₀ (record { run = r; answer = GoesOn }) m × (M.goes r m ≡ M.steps due₀ T text (M.goes r₀ m₀))
+  pub done : {r₀ r : Run} {h₀ h : List ℕ} {m₀ m : Lent} {due₀ until : ℕ} → Going r₀ h₀ m₀ due₀ r h m until → until ≤ r .counts .scans → length (m₀ .cells) ≡ n → length (m₀ .output) ≡ k
+      → Advances T text due₀ r₀ h₀ m₀ (record { run = r; answer = GoesOn }) h m × (M.keeping h (M.goes r m) ≡ M.steps due₀ T text (M.keeping h₀ (M.goes r₀ m₀)))
       × (GoesOn ≡ GoesOn → r .counts .scans ≡ r₀ .counts .scans + due₀)
   unfolding M.steps
-  done {r = r} {m = m} {due₀ = due₀} {until} g over c o =
+  done {r = r} {h = h} {m = m} {due₀ = due₀} {until} g over c o =
       let none : until - r .counts .scans ≡ 0 = omega arith in
-      let (is₁, is₂) = advances (sym (g .made ∙ ap (λ (j : ℕ). M.steps j T text (M.goes r m)) none)) c o (g .cells) (g .output)
+      let (is₁, is₂) = advances (sym (g .made ∙ ap (λ (j : ℕ). M.steps j T text (M.keeping h (M.goes r m))) none)) c o (g .cells) (g .output)
       (λ q. let z : _≡_ {A = ℕ} 0 1 = cc in omega arith) (λ q. g .inRange) in
       (is₁, is₂, λ q. omega (arith, g .notPast, g .all))
 
   -- Several scans at a time ----------------------------------------------------------------------------------------
 
-  module _ {r₀ r : Run} {m₀ m : Lent} {due₀ until : ℕ} (g : Going r₀ m₀ due₀ r m until) (p : ℕ) (few : p ≤ until - r .counts .scans)
-      (st : Stepped) (m′ : Lent) (is : M.leaves st m′ ≡ M.steps p T text (M.goes r m)) (cs : length (m′ .cells) ≡ n) (os : length (m′ .output) ≡ k) where
-    several : M.steps due₀ T text (M.goes r₀ m₀) ≡ M.steps (until - (r .counts .scans + p)) T text (M.leaves st m′)
+  module _ {r₀ r : Run} {h₀ h : List ℕ} {m₀ m : Lent} {due₀ until : ℕ} (g : Going r₀ h₀ m₀ due₀ r h m until) (p : ℕ) (few : p ≤ until - r .counts .scans)
+      (st : Stepped) (h′ : List ℕ) (m′ : Lent) (is : M.leavesIndexed st m′ h′ ≡ M.steps p T text (M.keeping h (M.goes r m))) (cs : length (m′ .cells) ≡ n) (os : length (m′ .output) ≡ k) where
+    several : M.steps due₀ T text (M.keeping h₀ (M.goes r₀ m₀)) ≡ M.steps (until - (r .counts .scans + p)) T text (M.leavesIndexed st m′ h′)
     several =
         let parts : until - r .counts .scans ≡ p + (until - (r .counts .scans + p)) = omega arith in
         g .made
-        ∙ ap (λ (j : ℕ). M.steps j T text (M.goes r m)) parts
-        ∙ steps-add p (until - (r .counts .scans + p)) T text (M.goes r m)
+        ∙ ap (λ (j : ℕ). M.steps j T text (M.keeping h (M.goes r m))) parts
+        ∙ steps-add p (until - (r .counts .scans + p)) T text (M.keeping h (M.goes r m))
         ∙ ap (M.steps (until - (r .counts .scans + p)) T text) (sym is)
 
     pub more : ((i : ℕ) → getD (m′ .cells) i 0 < 4294967296) → st .answer ≡ GoesOn → st .run .counts .scans ≡ r .counts .scans + p → InRange n k (st .run)
-        → Going r₀ m₀ due₀ (st .run) m′ until
+        → Going r₀ h₀ m₀ due₀ (st .run) h′ m′ until
     more b on scans inRange = record {
       cells = cs;
       output = os;
@@ -209,16 +210,16 @@ module _ (T : Table) (text : Bytes) (n k : ℕ) where
       all = g .all;
       made =
           several
-          ∙ ap (λ (y : Answer). M.steps (until - (r .counts .scans + p)) T text (record { run = st .run; answer = y; lent = m′ })) on
-          ∙ ap (λ (j : ℕ). M.steps (until - j) T text (M.goes (st .run) m′)) (sym scans);
+          ∙ ap (λ (y : Answer). M.steps (until - (r .counts .scans + p)) T text (M.keeping h′ (record { run = st .run; answer = y; lent = m′ }))) on
+          ∙ ap (λ (j : ℕ). M.steps (until - j) T text (M.keeping h′ (M.goes (st .run) m′))) (sym scans);
     }
 
-    pub over : (st .answer ≡ Refused → ⊥) → (st .answer ≡ GoesOn → ⊥) → length (m₀ .cells) ≡ n → length (m₀ .output) ≡ k → Advances T text due₀ r₀ m₀ st m′
+    pub over : (st .answer ≡ Refused → ⊥) → (st .answer ≡ GoesOn → ⊥) → length (m₀ .cells) ≡ n → length (m₀ .output) ≡ k → Advances T text due₀ r₀ h₀ m₀ st h′ m′
     over told out c o =
-        advances (sym (several ∙ steps-ended (until - (r .counts .scans + p)) T text (M.leaves st m′) out)) c o cs os told (λ q. absurd (out q)) .0
+        advances (sym (several ∙ steps-ended (until - (r .counts .scans + p)) T text (M.leavesIndexed st m′ h′) out)) c o cs os told (λ q. absurd (out q)) .0
 
   -- a number of scans that is due
-  pub severalReady : {r₀ r : Run} {m₀ m : Lent} {due₀ until : ℕ} → Going r₀ m₀ due₀ r m until → (p : ℕ) → p ≤ until - r .counts .scans → r .counts .scans < until
+  pub severalReady : {r₀ r : Run} {h₀ h : List ℕ} {m₀ m : Lent} {due₀ until : ℕ} → Going r₀ h₀ m₀ due₀ r h m until → (p : ℕ) → p ≤ until - r .counts .scans → r .counts .scans < until
       → InRange (length (m .cells)) (length (m .output)) r × (r .counts .scans + p ≤ lastScan)
   severalReady {r = r} {m = m} g p few some =
       (subst (λ (j : ℕ). InRange (length (m .cells)) j r) (sym (g .output)) (subst (λ (j : ℕ). InRange j k r) (sym (g .cells)) (g .inRange)), omega (arith, g .counted))

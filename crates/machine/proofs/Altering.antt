@@ -1,6 +1,6 @@
 -- UPDATE and LOCK: a definition is changed where it stands. What that is in items, frames, definitions and cells; no width changes,
 -- and so no position does.
-use Prim.Native.Nat.{ℕ, suc, _+_, _≤_, _<_}
+use Prim.Native.Nat.{ℕ, suc, _+_, _-_, _≤_, _<_}
 use native.Mathlib.Omega.{arith}
 use mathlib.Core.Path.{_≡_, refl, sym, ap, subst, _∙_}
 use mathlib.Core.Bool.{Bool, true, false, cond, _||_}
@@ -11,20 +11,22 @@ use lib.Dec.{eqb}
 use borrow.Author.Tests.{eq-eqb, ne-eqb, eqb-true}
 use Rattle.language.specs.Signs.{Bytes}
 use Rattle.language.specs.Definitions.{macro, Definition, Change, updates, locks, changed, altered, among}
+use Rattle.language.specs.Groups.{group}
 use Rattle.language.specs.Scanning.{reading}
 use Rattle.memory.specs.Block.{placed}
 use Rattle.machine.proofs.Finds.{HoldsItems}
 use Rattle.machine.proofs.Items.{encode-append, width-append, width-cons, definitions-append, count-append}
-use Rattle.machine.specs.Items.{macroOf, definitionOf, Item, defined, listed, encodeItem, encode, width, definitionsOf, count, Definitions}
+use Rattle.machine.specs.Items.{Head, macroOf, definitionOf, Item, defined, listed, encodeItem, encode, width, definitionsOf, count, Definitions}
 use Rattle.machine.specs.Frames.{Frame, made, collects, reads, address, At, here, there, applying, laid, items, places, lefts, calls, bodies, Valid}
+use Rattle.machine.specs.Index.{newestIn, Linked, Index}
 use Rattle.machine.specs.Walks.{headSize, withLock, withValueLength}
 
 -- Items --------------------------------------------------------------------------------------------------------------
 
--- the lock of a definition that is changed, its value, as far as the room goes, and what that leaves of the room
-abbrev pub lockBy : Change → ℕ → ℕ
+-- the lock of a definition that is changed, its link, its value, as far as the room goes, and what that leaves of the room
+abbrev pub lockBy : Change → Head → Head
 lockBy (updates w) f = f
-lockBy locks f = 1
+lockBy locks f = record { lock = 1; link = f .link }
 
 abbrev pub valueBy : Change → Bytes → Bytes → Bytes
 valueBy (updates w) value spare = take (length value + length spare) w
@@ -41,7 +43,7 @@ room-kept locks value spare = refl
 
 -- definition number k is changed
 module _ (k : ℕ) (h : Change) where
-  abbrev pub newLock : ℕ → ℕ → ℕ
+  abbrev pub newLock : ℕ → Head → Head
   newLock m f = cond (eqb k m) (lockBy h f) f
 
   abbrev pub newValue : ℕ → Bytes → Bytes → Bytes
@@ -106,6 +108,39 @@ module _ (k : ℕ) (h : Change) where
   alter-none base (defined f name value spare ∷ its) h =
       rw (ne-eqb k (base + count its) (h (count its) (omega arith)), alter-none base its (λ m q. h m (omega arith)))
   alter-none base (listed to links reader list ∷ its) h = rw (alter-none base its h)
+
+  -- the newest of a group stands where it stood
+  pub alter-newest : (n g base : ℕ) (its : List Item) → newestIn n g (alterItems base its) ≡ newestIn n g its
+  unfolding alterItems newestIn
+  alter-newest n g base [] = refl
+  alter-newest n g base (defined f name value spare ∷ its) =
+      let a : address n (alterItems base (defined f name value spare ∷ its)) ≡ address n (defined f name value spare ∷ its) =
+      ap (λ (w : ℕ). n - w) (alter-width base (defined f name value spare ∷ its)) in
+      rw (a, alter-newest n g base its)
+  alter-newest n g base (listed to links reader list ∷ its) = alter-newest n g base its
+
+  -- and the links stay
+  alter-link : (m : ℕ) (f : Head) → newLock m f .link ≡ f .link
+  alter-link m f = go (eqb k m) h
+    where
+      go : (t : Bool) (h : Change) → cond t (lockBy h f) f .link ≡ f .link
+      go true (updates w) = refl
+      go true locks = refl
+      go false h = refl
+
+  alter-linked : (n base : ℕ) (its : List Item) → Linked n its → Linked n (alterItems base its)
+  unfolding alterItems Linked
+  alter-linked n base [] x = x
+  alter-linked n base (defined f name value spare ∷ its) x =
+      (alter-link (base + count its) f ∙ x .0 ∙ sym (alter-newest n (group name) base its), alter-linked n base its (x .1))
+  alter-linked n base (listed to links reader list ∷ its) x = alter-linked n base its x
+
+  pub alter-index : (n base : ℕ) (its : List Item) (heads : List ℕ) → Index n its heads → Index n (alterItems base its) heads
+  alter-index n base its heads x = record {
+    size = x .size;
+    linked = alter-linked n base its (x .linked);
+    headed = λ g q. x .headed g q ∙ sym (alter-newest n g base its);
+  }
 
   -- a definition stays where it stands, and so does its value, unless the change is of this value
   pub alter-at : {n base d j : ℕ} {its : List Item} {v : Bytes} → At n base its d j v → (j ≡ k → (value spare : Bytes) → valueBy h value spare ≡ value)
@@ -209,7 +244,7 @@ module _ (n base k : ℕ) (h : Change) where
 -- where a definition stands among the items, with its lock, its name and what its value leaves of its room
 pub record Spot (n base : ℕ) (its : List Item) (d k : ℕ) (v : Bytes) : Type 0 where
   pub newer : List Item
-  pub lock : ℕ
+  pub lock : Head
   pub name : Bytes
   pub spare : Bytes
   pub older : List Item
@@ -262,7 +297,7 @@ Fits (updates w) room = length w ≤ room
 Fits locks room = Unit {0}
 
 -- what the language has of a changed definition
-changed-is : (h : Change) (f : ℕ) (name v spare : Bytes) → Fits h (length v + length spare)
+changed-is : (h : Change) (f : Head) (name v spare : Bytes) → Fits h (length v + length spare)
     → definitionOf (lockBy h f) name (valueBy h v spare) (spareBy h v spare) ≡ record { name = name; content = changed h (macro (macroOf f v spare)) }
 changed-is (updates w) f name v spare fit = rw (room-kept (updates w) v spare, take-all (length v + length spare) w fit)
 changed-is locks f name v spare fit = refl
@@ -321,7 +356,7 @@ module _ {n base d k : ℕ} {its : List Item} {v : Bytes} (s : Spot n base its d
       )
 
   -- the cells by what stands in them
-  whole : l ≡ ahead ++ (s .lock ∷ length (s .name) ∷ (length v + length (s .spare)) ∷ length v ∷ (s .name ++ ((v ++ s .spare) ++ encode (s .older))))
+  whole : l ≡ ahead ++ (s .lock .lock ∷ length (s .name) ∷ (length v + length (s .spare)) ∷ length v ∷ s .lock .link ∷ (s .name ++ ((v ++ s .spare) ++ encode (s .older))))
   unfolding encode
   whole =
       let i : Item = defined (s .lock) (s .name) v (s .spare) in
@@ -331,12 +366,12 @@ module _ {n base d k : ℕ} {its : List Item} {v : Bytes} (s : Spot n base its d
   pub updateAlters : (w : Bytes) → length w ≤ length v + length (s .spare) → Alters k (updates w) base its right l (stored d (s .name) w l)
   unfolding encode
   updateAlters w fit =
-      let head : List ℕ = s .lock ∷ length (s .name) ∷ (length v + length (s .spare)) ∷ [] in
+      let head : List ℕ = s .lock .lock ∷ length (s .name) ∷ (length v + length (s .spare)) ∷ [] in
       let a = ahead ++ head in
       let c = (v ++ s .spare) ++ encode (s .older) in
       let unused = drop (length w) (v ++ s .spare) in
       let first : length a ≡ d + 3 = omega (arith, length-append ahead head, many) in
-      let split : l ≡ a ++ (length v ∷ (s .name ++ c)) = whole ∙ simp append-assoc in
+      let split : l ≡ a ++ (length v ∷ ((s .lock .link ∷ s .name) ++ c)) = whole ∙ simp append-assoc in
       let sameRoom : length w + length unused ≡ length v + length (s .spare) = omega (arith, length-drop (length w) (v ++ s .spare), length-append v (s .spare)) in
       let items : alterItems k (updates w) base its ≡ s .newer ++ (defined (s .lock) (s .name) w unused ∷ s .older) =
       alterIs s (updates w)
@@ -344,7 +379,7 @@ module _ {n base d k : ℕ} {its : List Item} {v : Bytes} (s : Spot n base its d
       record {
         is =
             ap (stored d (s .name) w) split
-            ∙ overwritten a (s .name) c w (length v) (length w) (d + 3) (d + headSize + length (s .name)) first (omega arith)
+            ∙ overwritten a (s .lock .link ∷ s .name) c w (length v) (length w) (d + 3) (d + headSize + length (s .name)) first (omega arith)
             ∙ rw (items, encode-append, drop-append-le (length w) (v ++ s .spare) (encode (s .older)) (omega (arith, length-append v (s .spare))), sameRoom) (simp append-assoc);
       }
 
@@ -352,8 +387,8 @@ module _ {n base d k : ℕ} {its : List Item} {v : Bytes} (s : Spot n base its d
   pub lockAlters : Alters k locks base its right l (withLock l d)
   unfolding encode
   lockAlters =
-      let rest : List ℕ = length (s .name) ∷ (length v + length (s .spare)) ∷ length v ∷ (s .name ++ ((v ++ s .spare) ++ encode (s .older))) in
-      record { is = ap (λ (y : List ℕ). withLock y d) whole ∙ set-at ahead (s .lock) rest 1 d many ∙ rw (alterIs s locks, encode-append) (simp append-assoc) }
+      let rest : List ℕ = length (s .name) ∷ (length v + length (s .spare)) ∷ length v ∷ s .lock .link ∷ (s .name ++ ((v ++ s .spare) ++ encode (s .older))) in
+      record { is = ap (λ (y : List ℕ). withLock y d) whole ∙ set-at ahead (s .lock .lock) rest 1 d many ∙ rw (alterIs s locks, encode-append) (simp append-assoc) }
 
 module _ {n base k : ℕ} {its : List Item} {h : Change} {right : ℕ} {l l′ : List ℕ} (x : HoldsItems n l right its) (e : Alters k h base its right l l′) where
   -- as many cells as before

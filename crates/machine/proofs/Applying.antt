@@ -31,14 +31,14 @@ use Rattle.machine.proofs.Lists.{cell-is}
 
 -- The run r in the cells l, where the innermost call with this list is ended by its mark and its `;` is charged. `under` are the
 -- frames around the call, `since` what was defined since its `$`.
-pub record Applied (n : ℕ) (older : List Definition) (whole start : List ℕ) (r : Run) (m : Lent) (s : State) : Type 0 where
+pub record Applied (n : ℕ) (older : List Definition) (heads whole start : List ℕ) (r : Run) (m : Lent) (s : State) : Type 0 where
   pub under : List Frame
   pub since : List Item
   pub ended : List Bytes
   pub hand : Bytes
   pub valid : Valid n (length older) under
   pub definitions : Definitions since
-  pub lies : Lies n older start (since ++ items n (length older) under) r m (s .standing)
+  pub lies : Lies n older heads start (since ++ items n (length older) under) r m (s .standing)
   pub cellsLent : n ≤ 65536
   pub room : r .calls .left + 1 ≤ r .right
   pub inUse : r .charge + r .right ≡ r .calls .left + 1 + n
@@ -57,18 +57,18 @@ pub record Applied (n : ℕ) (older : List Definition) (whole start : List ℕ) 
   pub ahead : drop (r .counts .read) whole ≡ s .text
   pub quotes : r .quotes ≡ s .quotes
 
-abbrev pub listOf : {n : ℕ} {older : List Definition} {whole start : List ℕ} {r : Run} {m : Lent} {s : State} → Applied n older whole start r m s → List Bytes
+abbrev pub listOf : {n : ℕ} {older : List Definition} {heads whole start : List ℕ} {r : Run} {m : Lent} {s : State} → Applied n older heads whole start r m s → List Bytes
 listOf x = x .ended ++ (x .hand ∷ [])
 
 regroup : (a head c : List ℕ) (w : ℕ) (hand t : List ℕ) → (a ++ (head ++ (c ++ (w ∷ hand)))) ++ t ≡ (a ++ (head ++ c)) ++ (w ∷ (hand ++ t))
 regroup a head c w hand t = simp append-assoc
 
 -- the innermost call of the body being read, its mark set
-pub appliedOf : {n : ℕ} {older : List Definition} {whole start : List ℕ} {r : Run} {l o : List ℕ} {s : State}
-    → definitionsPrice older ≡ 0 → (h : Represents n older whole start r (lent l o) s) → S.ownCall s ≡ true → r .charge + 1 ≤ n
-    → Applied n older whole start (M.charged 1 r) (lent (set (M.endArgument r l) (r .calls .left) mark) o) (S.noting (S.charge s + 1) s)
+pub appliedOf : {n : ℕ} {older : List Definition} {heads whole start : List ℕ} {r : Run} {l o : List ℕ} {s : State}
+    → definitionsPrice older ≡ 0 → (h : Represents n older heads whole start r (lent l o) s) → S.ownCall s ≡ true → r .charge + 1 ≤ n
+    → Applied n older heads whole start (M.charged 1 r) (lent (set (M.endArgument r l) (r .calls .left) mark) o) (S.noting (S.charge s + 1) s)
 unfolding laid calls lefts bodies Valid
-appliedOf {n} {older} {whole} {start} {r} {l} {o} {s} free h own e =
+appliedOf {n} {older} {heads} {whole} {start} {r} {l} {o} {s} free h own e =
     let b = length older in
     let fs = h .frames in
     let fit = roomIs free h 1 e in
@@ -139,7 +139,7 @@ appliedOf {n} {older} {whole} {start} {r} {l} {o} {s} free h own e =
       hand = x .hand;
       valid = v;
       definitions = x .definitions;
-      lies = subst (λ (t : List Item). Lies n older start t (M.charged 1 r) (lent l′ o) ((S.noting (S.charge s + 1) s) .standing)) itemsEq
+      lies = subst (λ (t : List Item). Lies n older heads start t (M.charged 1 r) (lent l′ o) ((S.noting (S.charge s + 1) s) .standing)) itemsEq
           (record {
             stands = record {
               size = sizeEq;
@@ -152,6 +152,7 @@ appliedOf {n} {older} {whole} {start} {r} {l} {o} {s} free h own e =
             scans = h .lies .scans;
             most = rw (chargeIs free h, h .lies .most);
             wrote = h .lies .wrote;
+            indexed = h .lies .indexed;
           });
       cellsLent = h .cellsLent;
       room = fit;

@@ -16,15 +16,17 @@ use Rattle.language.proofs.Prices.{arguments-last, price-append}
 use Rattle.memory.specs.Block.{placed, block, moved}
 use Rattle.memory.proofs.Blocks.{moved-in}
 use Rattle.machine.specs.declared.run.Run.{Run}
-use Rattle.machine.specs.Walks.{listOverhead, mark, packed, high, low, definitions, argumentsFrom, returnLink, withLinks}
+use Rattle.machine.specs.Walks.{listOverhead, mark, packed, high, low, definitions, removed, argumentsFrom, returnLink, withLinks}
 use Rattle.machine.specs.Machine as M
 use Rattle.machine.proofs.Items.{encode-append, width-append, width-cons, count-append, definitions-append, arguments-size, list-size}
 use Rattle.machine.proofs.Stack.{leftIs as framesLeft}
 use Rattle.machine.proofs.Represents.{goes, callsCharge, rightCharge, definitionsWidth}
 use Rattle.machine.proofs.Finds.{definitions-count}
+use Rattle.machine.proofs.Indexing.{removed-in}
 use Rattle.machine.proofs.Applying.{Applied, listOf}
-use Rattle.machine.specs.Items.{Item, encodeItem, width, encode, encodeArguments, definitionsOf, count}
+use Rattle.machine.specs.Items.{Item, encodeItem, width, encode, encodeArguments, definitionsOf, count, Definitions}
 use Rattle.machine.specs.Frames.{Places, Frame, made, collects, reads, address, At, listItem, laid, items, places, lefts, calls, bodies, Valid}
+use Rattle.machine.specs.Index.{newestIn, Linked, Index}
 use Rattle.machine.specs.Held.{Represents}
 use Rattle.machine.proofs.Lists.{packed-low, packed-high}
 
@@ -56,7 +58,7 @@ oldest-items since under older =
     ap (λ (x : List Definition). drop (length ds - (length older + count under)) x) split
     ∙ drop-at (definitionsOf since) (definitionsOf under ++ older) (length ds - (length older + count under)) (omega arith)
 
-module _ {n : ℕ} {older : List Definition} {whole start : List ℕ} {r : Run} {l o : List ℕ} {s : State} (a : Applied n older whole start r (lent l o) s) where
+module _ {n : ℕ} {older : List Definition} {heads whole start : List ℕ} {r : Run} {l o : List ℕ} {s : State} (a : Applied n older heads whole start r (lent l o) s) where
   abbrev b : ℕ
   b = length older
 
@@ -122,6 +124,13 @@ module _ {n : ℕ} {older : List Definition} {whole start : List ℕ} {r : Run} 
       subst (λ (k : ℕ). definitions l (r .right) k ≡ count (a .since)) e
       (definitions-count l (r .right) (a .since) (encode U) (a .lies .stands .cells ∙ encode-append (a .since) U) (a .definitions) (omega (arith, w .1, a .lies .stands .size)))
 
+  -- what was defined since then is taken out of the index, wherever the items then stand
+  pub goneIndex : (since′ under′ : List Item) (l′ : List ℕ) → Definitions since′ → width since′ ≡ width (a .since) → length l′ ≡ n
+      → drop (r .right) l′ ≡ encode since′ ++ encode under′ → Index n (since′ ++ under′) heads → Index n under′ (removed l′ heads (r .right) to)
+  goneIndex since′ under′ l′ ds size lent′ cells′ x =
+      let w = widths in
+      removed-in (length l′) n l′ heads (r .right) to since′ under′ (encode under′) cells′ ds (omega (arith, w .1)) (omega (arith, w .1)) x
+
   -- The body of a definition is read ---------------------------------------------------------------------------------
 
   module _ (d k : ℕ) (v : Bytes) (at : At n b (a .since ++ U) d k v) where
@@ -173,9 +182,9 @@ module _ {n : ℕ} {older : List Definition} {whole start : List ℕ} {r : Run} 
         ∙ twoSet (take at′ l) to (p .list) (packed (p .hand) (p .call)) (packed (listPrice list - listOverhead) (p .list)) (packed (p .body) (p .offset)) (body ++ drop (r .right) l) at′ lo
 
     -- the standing once the body has begun
-    pub begun : 0 < length list → Represents n older whole start (M.bodyBegun r d at′ (packed (p .hand) (p .call))) (lent (take at′ l ++ (encodeItem I ++ drop (r .right) l)) o)
+    pub begun : 0 < length list → Represents n older heads whole start (M.bodyBegun r d at′ (packed (p .hand) (p .call))) (lent (take at′ l ++ (encodeItem I ++ drop (r .right) l)) o)
         (S.withBodies (record { number = k; list = list; rest = v; calls = length (calls n b (a .under)); opened = b + count U; applied = length (s .standing .definitions) } ∷ s .bodies) (S.withCalls (calls n b (a .under)) s))
-    unfolding laid lefts calls bodies Valid encode definitionsOf
+    unfolding laid lefts calls bodies Valid encode definitionsOf Linked newestIn
     begun named =
         let w = widths in
         let lw = listWidth in
@@ -206,6 +215,7 @@ module _ {n : ℕ} {older : List Definition} {whole start : List ℕ} {r : Run} 
               live = a .lies .stands .live;
             };
             wrote = a .lies .wrote;
+            indexed = record { size = a .lies .indexed .size; linked = a .lies .indexed .linked; headed = a .lies .indexed .headed };
             read = a .lies .read;
             scans = a .lies .scans;
             most = a .lies .most;
@@ -305,10 +315,10 @@ module _ {n : ℕ} {older : List Definition} {whole start : List ℕ} {r : Run} 
   pub freed : (fs′ : List Frame) (l′ : List ℕ) (ds : List Definition) → Valid n b fs′ → places n b fs′ ≡ p → lefts n b fs′ ≡ lefts n b (a .under)
       → calls n b fs′ ≡ calls n b (a .under) → bodies n b fs′ ≡ bodies n b (a .under)
       → length l′ ≡ n → take (r .calls .call) l′ ≡ take (r .calls .call) l → width (items n b fs′) ≡ width U → drop to l′ ≡ encode (items n b fs′)
-      → ds ≡ definitionsOf (items n b fs′) ++ older → count (items n b fs′) ≡ count U
-      → Represents n older whole start (M.released r 0 to (packed (p .hand) (p .call)) (count (a .since))) (lent l′ o)
+      → ds ≡ definitionsOf (items n b fs′) ++ older → count (items n b fs′) ≡ count U → {heads′ : List ℕ} → Index n (items n b fs′) heads′
+      → Represents n older heads′ whole start (M.released r 0 to (packed (p .hand) (p .call)) (count (a .since))) (lent l′ o)
       (S.withCalls (calls n b (a .under)) (S.withDefinitions ds s))
-  freed fs′ l′ ds v pl le ca bo size low′ wd hi dd cn =
+  freed fs′ l′ ds v pl le ca bo size low′ wd hi dd cn ix =
       let w = widths in
       let z : r .calls .call + 0 ≡ r .calls .call = omega arith in
       record {
@@ -326,6 +336,7 @@ module _ {n : ℕ} {older : List Definition} {whole start : List ℕ} {r : Run} 
           scans = a .lies .scans;
           most = a .lies .most;
           wrote = a .lies .wrote;
+          indexed = ix;
         };
         cellsLent = a .cellsLent;
         ordered = omega (arith, toAbove, a .leftIs);

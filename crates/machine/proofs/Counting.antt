@@ -16,8 +16,8 @@ use Rattle.machine.proofs.Moves.{Reads, advance, advanceLaid, advanceLe
 use Rattle.machine.specs.Frames.{bodies}
 use Rattle.machine.specs.Held.{Represents}
 
-module _ {n : ℕ} {older : List Definition} {whole start : List ℕ} {r : Run} {l o : List ℕ} {s : State} (h : Represents n older whole start r (lent l o) s) where
-  pub quoted : (q : ℕ) → Represents n older whole start (M.withQuotes q r) (lent l o) (S.withQuotes q s)
+module _ {n : ℕ} {older : List Definition} {heads whole start : List ℕ} {r : Run} {l o : List ℕ} {s : State} (h : Represents n older heads whole start r (lent l o) s) where
+  pub quoted : (q : ℕ) → Represents n older heads whole start (M.withQuotes q r) (lent l o) (S.withQuotes q s)
   quoted q = record {
     frames = h .frames;
     valid = h .valid;
@@ -27,6 +27,7 @@ module _ {n : ℕ} {older : List Definition} {whole start : List ℕ} {r : Run} 
       scans = h .lies .scans;
       most = h .lies .most;
       wrote = h .lies .wrote;
+      indexed = h .lies .indexed;
     };
     cellsLent = h .cellsLent;
     ordered = h .ordered;
@@ -40,7 +41,7 @@ module _ {n : ℕ} {older : List Definition} {whole start : List ℕ} {r : Run} 
   }
 
   -- a scan that takes no byte of the text
-  pub counted : Represents n older whole start (M.scanned r) (lent l o) (S.counting 0 s)
+  pub counted : Represents n older heads whole start (M.scanned r) (lent l o) (S.counting 0 s)
   counted = record {
     frames = h .frames;
     valid = h .valid;
@@ -50,6 +51,7 @@ module _ {n : ℕ} {older : List Definition} {whole start : List ℕ} {r : Run} 
       scans = ap (λ (x : ℕ). x + 1) (h .lies .scans);
       most = h .lies .most;
       wrote = h .lies .wrote;
+      indexed = h .lies .indexed;
     };
     cellsLent = h .cellsLent;
     ordered = h .ordered;
@@ -64,7 +66,7 @@ module _ {n : ℕ} {older : List Definition} {whole start : List ℕ} {r : Run} 
 
   -- a scan that takes a byte of the text
   pub taken : (x : ℕ) (t : Bytes) → s .text ≡ x ∷ t
-      → Represents n older whole start (M.withRead (r .counts .read + 1) (M.scanned r)) (lent l o) (S.withText t (S.counting 1 s))
+      → Represents n older heads whole start (M.withRead (r .counts .read + 1) (M.scanned r)) (lent l o) (S.withText t (S.counting 1 s))
   taken x t e = record {
     frames = h .frames;
     valid = h .valid;
@@ -74,6 +76,7 @@ module _ {n : ℕ} {older : List Definition} {whole start : List ℕ} {r : Run} 
       scans = ap (λ (k : ℕ). k + 1) (h .lies .scans);
       most = h .lies .most;
       wrote = h .lies .wrote;
+      indexed = h .lies .indexed;
     };
     cellsLent = h .cellsLent;
     ordered = h .ordered;
@@ -88,7 +91,7 @@ module _ {n : ℕ} {older : List Definition} {whole start : List ℕ} {r : Run} 
 
   -- a byte of the body being read
   pub advanced : (B : Body) (Bs : List Body) (x : ℕ) (rest : Bytes) → s .bodies ≡ B ∷ Bs → B .rest ≡ x ∷ rest
-      → Represents n older whole start (M.withOffset (r .source .offset + 1) r) (lent l o) (S.withBodies (S.withRest rest B ∷ Bs) s)
+      → Represents n older heads whole start (M.withOffset (r .source .offset + 1) r) (lent l o) (S.withBodies (S.withRest rest B ∷ Bs) s)
   advanced B Bs x rest e q =
       let b = length older in
       let fs = h .frames in
@@ -104,6 +107,7 @@ module _ {n : ℕ} {older : List Definition} {whole start : List ℕ} {r : Run} 
           scans = h .lies .scans;
           most = h .lies .most;
           wrote = h .lies .wrote;
+          indexed = h .lies .indexed;
         });
         cellsLent = h .cellsLent;
         ordered = h .ordered;

@@ -5,7 +5,7 @@ use mathlib.Core.Path.{_≡_, refl, sym, ap, subst, _∙_}
 use mathlib.Core.Bool.{Bool, true, false}
 use mathlib.Core.List.{List, [], _∷_, _++_, append-assoc, append-nil}
 use lib.ListN.{length, take, drop, getD, length-append}
-use lib.Seq.{getD-take, take-take, take-at, drop-at, drop-drop}
+use lib.Seq.{getD-take, take-take, take-at, drop-at, drop-drop, length-take-le}
 use lib.Dec.{eqb, ltb}
 use borrow.Author.Tests.{le-ltb, eq-eqb, ne-eqb, ltb-false}
 use Rattle.language.specs.Outcomes
@@ -18,17 +18,19 @@ use Rattle.language.specs.Expansion.{limitsOf, lent}
 use Rattle.memory.specs.Block.{placed, block, moved}
 use Rattle.memory.proofs.Blocks.{moved-in, take-placed, drop-placed, placed-length}
 use Rattle.machine.specs.declared.run.Run.{Run}
-use Rattle.machine.specs.Walks.{listOverhead, rightBefore, listLink, nowhere, packed, high, low, definitions, returnLink}
+use Rattle.machine.specs.Walks.{listOverhead, rightBefore, listLink, nowhere, packed, high, low, definitions, removed, relinked, restored, returnLink}
 use Rattle.machine.specs.Machine as M
 use Rattle.machine.proofs.Items.{encode-append, width-append, width-cons, count-append, definitions-append, list-size}
 use Rattle.machine.proofs.Stack.{noCall}
 use Rattle.machine.proofs.Moves.{Collects, madeAll, madeLaid, madeLefts, madeCalls, madeBodies, madeValid, unmadeValid, OwnBody, ownBodyOf}
-use Rattle.machine.proofs.Represents.{Simulates, goes}
+use Rattle.machine.proofs.Represents.{SimulatesIndexed, goes}
 use Rattle.machine.proofs.Finds.{ListAt, list-at, definitions-count, body-below, offset-below}
+use Rattle.machine.proofs.Indexing.{removed-in, relinkedItems, relinked-width, relinked-definitions, relinked-only, relinked-in, shifted-index}
 use Rattle.machine.proofs.Putting.{refusal, callBefore}
 use Rattle.machine.proofs.Opening.{listBelow, ownTest}
 use Rattle.machine.specs.Items.{Item, width, encode, definitionsOf, count}
 use Rattle.machine.specs.Frames.{Places, Frame, reads, address, applying, listItem, laid, items, places, lefts, calls, bodies, Valid}
+use Rattle.machine.specs.Index.{newestIn, Linked, Index}
 use Rattle.machine.specs.Held.{Represents, placesOf}
 use Rattle.machine.proofs.Lists.{packed-low, packed-high}
 
@@ -67,9 +69,9 @@ without-items since collected under older opened applied e f =
     ∙ ap (λ (x : List Definition). x ++ older) (sym (definitions-append since under))
 
 -- Whether a call of the body being read is open: the code's test is the scanning's.
-pub ownIs : {n : ℕ} {older : List Definition} {whole start : List ℕ} {r : Run} {l o : List ℕ} {s : State}
-    → Represents n older whole start r (lent l o) s → M.ownCall r l ≡ S.ownCall s
-ownIs {n} {older} {whole} {start} {r} {l} {o} {s} h = go (calls n b fs) refl
+pub ownIs : {n : ℕ} {older : List Definition} {heads whole start : List ℕ} {r : Run} {l o : List ℕ} {s : State}
+    → Represents n older heads whole start r (lent l o) s → M.ownCall r l ≡ S.ownCall s
+ownIs {n} {older} {heads} {whole} {start} {r} {l} {o} {s} h = go (calls n b fs) refl
   where
     b : ℕ
     b = length older
@@ -99,8 +101,8 @@ ownIs {n} {older} {whole} {start} {r} {l} {o} {s} h = go (calls n b fs) refl
         ∙ ownTest n b (h .cellsLent) fs c (omega (arith, h .lies .stands .right)) ∙ sym abstract′)
 
 -- what the frames say where the body being read is the innermost of them
-module _ {n : ℕ} {older : List Definition} {whole start : List ℕ} {r : Run} {l o : List ℕ} {s : State}
-    (h : Represents n older whole start r (lent l o) s) (x : OwnBody n (length older) (h .frames)) where
+module _ {n : ℕ} {older : List Definition} {heads whole start : List ℕ} {r : Run} {l o : List ℕ} {s : State}
+    (h : Represents n older heads whole start r (lent l o) s) (x : OwnBody n (length older) (h .frames)) where
   abbrev b′ : ℕ
   b′ = length older
 
@@ -216,17 +218,85 @@ module _ {n : ℕ} {older : List Definition} {whole start : List ℕ} {r : Run} 
       moved-in (r .right) upTo (r .source .list - r .right) l (omega (arith, listEq, w .0, w .1, h .lies .stands .size)) (omega (arith, listEq, w .0, w .1, h .lies .stands .size))
       ∙ ap (λ (k : List ℕ). placed upTo k l) blockIs
 
+  -- The index as they move ------------------------------------------------------------------------------------------
+
+  -- those made in the body, linked over what they then stand on
+  abbrev S′ : List Item
+  S′ = relinkedItems n U (x .since)
+
+  -- the heads once they are taken out, and once those are that go
+  abbrev heads₁ : List ℕ
+  heads₁ = removed l heads (r .right) (r .source .list)
+
+  abbrev heads₂ : List ℕ
+  heads₂ = removed l heads₁ (A + listPrice (x .list)) to
+
+  index₁ : Index n (x .collected ++ U) heads₁
+  unfolding Linked newestIn
+  index₁ =
+      let w = widths in
+      let y = removed-in (length l) n l heads (r .right) (r .source .list) (x .since) (I ∷ (x .collected ++ U)) (encode (I ∷ (x .collected ++ U))) cellsFrom
+      (x .definitions) (omega (arith, listEq, w .1)) (omega (arith, w .1, h .lies .stands .size)) (subst (λ (t : List Item). Index n t heads) itemsIs (h .lies .indexed)) in
+      record { size = y .size; linked = y .linked; headed = y .headed }
+
+  index₂ : Index n U heads₂
+  unfolding Valid
+  index₂ =
+      let w = widths in
+      removed-in (length l) n l heads₁ (A + listPrice (x .list)) to (x .collected) U (encode U)
+      (lists .behind ∙ append-nil (encode (x .collected ++ U)) ∙ encode-append (x .collected) U) (validIs .1) (omega (arith, w .0, w .1))
+      (omega (arith, w .0, w .1, h .lies .stands .size)) index₁
+
+  -- the cells then
+  abbrev cells′ : List ℕ
+  cells′ = placed upTo (encode S′) l
+
+  -- what the body's definitions take of them
+  sameWidth : width S′ ≡ width (x .since)
+  sameWidth = relinked-width n U (x .since)
+
+  fits : (upTo + width (x .since) ≡ to) × (to ≤ length l) × (upTo + width S′ ≤ length l)
+  fits = let w = widths in let e = sameWidth in (omega (arith, listEq, w .0, w .1), omega (arith, listEq, w .0, w .1, h .lies .stands .size), omega (arith, listEq, w .0, w .1, h .lies .stands .size))
+
+  relinkIs : relinked (placed upTo (encode (x .since)) l) heads₂ upTo to (r .source .list) (to - r .source .list) ≡ cells′
+  relinkIs =
+      let w = widths in
+      let X = I ∷ (x .collected ++ U) in
+      let l′ = placed upTo (encode (x .since)) l in
+      let by : to - A ≡ width X - width U = omega (arith, w .0, w .1) in
+      let size : length l′ ≡ length l = placed-length upTo (encode (x .since)) l (omega (arith, fits)) in
+      ap (λ (e : ℕ). relinked l′ heads₂ upTo to e (to - e)) listEq
+      ∙ ap (relinked l′ heads₂ upTo to A) by
+      ∙ relinked-in n U X (h .cellsLent) (length l′) l′ heads₂ (take upTo l) (drop (upTo + width (x .since)) l) upTo to (x .since) refl
+      (length-take-le upTo l (omega (arith, fits))) (x .definitions) (omega (arith, fits)) (omega (arith, fits, size)) (omega (arith, w .0))
+      (omega (arith, width-append (x .since) X, w .1)) (subst (Linked n) itemsIs (h .lies .indexed .linked)) index₂
+      ∙ ap (λ (k : ℕ). take upTo l ++ (encode S′ ++ drop (upTo + k) l)) (sym sameWidth)
+
+  -- the index then
+  abbrev heads₃ : List ℕ
+  heads₃ = restored cells′ heads₂ upTo to
+
+  index₃ : Index n (S′ ++ U) heads₃
+  index₃ =
+      let w = widths in
+      let f = fits in
+      let e = sameWidth in
+      shifted-index n U (x .since) cells′ heads₂ (drop (upTo + width S′) l) upTo to (h .cellsLent) (x .definitions)
+      (drop-placed upTo (encode S′) l (omega arith)) (omega arith) refl (omega (arith, w .0, w .1)) (omega (arith, placed-length upTo (encode S′) l (f .2))) index₂
+
   -- the standing once the body has ended
-  endsBody : Represents n older whole start
+  endsBody : Represents n older heads₃ whole start
       (M.bodyEnded r to (packed (listPrice (x .list) - listOverhead) (places n b′ (x .under) .list)) (packed (places n b′ (x .under) .body) (places n b′ (x .under) .offset)) (count (x .collected)))
-      (lent (placed upTo (encode (x .since)) l) o)
+      (lent cells′ o)
       (S.withQuotes 0 (S.withBodies (bodies n b′ (x .under)) (S.withDefinitions (without (b′ + count U) (b′ + count (x .collected ++ U)) (s .standing .definitions)) s)))
   unfolding Valid definitionsOf
   endsBody =
       let w = widths in
-      let ml = madeLaid n b′ (x .since) (x .under) (x .definitions) in
+      let ml = madeLaid n b′ S′ (x .under) (relinked-only n U (x .since) (x .definitions)) in
       let p = places n b′ (x .under) in
-      let fit : upTo + width (x .since) ≤ length l = omega (arith, listEq, w .0, w .1, h .lies .stands .size) in
+      let e = sameWidth in
+      let fit : upTo + width S′ ≤ length l = fits .2 in
+      let sameCount : count S′ ≡ count (x .since) = ap length (relinked-definitions n U (x .since)) in
       let inner : width U ≤ n = omega (arith, listEq, w .0, w .1) in
       let lowList : low (packed (listPrice (x .list) - listOverhead) (p .list)) ≡ p .list = packed-low (listPrice (x .list) - listOverhead) (p .list) (omega (arith, listBelow n b′ (h .cellsLent) (x .under) inner)) in
       let highBody : high (packed (p .body) (p .offset)) ≡ p .body = packed-high (p .body) (p .offset) (body-below n b′ (h .cellsLent) (x .under) (validIs .0)) in
@@ -236,29 +306,32 @@ module _ {n : ℕ} {older : List Definition} {whole start : List ℕ} {r : Run} 
       let counts : count (items n b′ (h .frames)) ≡ count (x .since) + (count (x .collected) + count U) =
       ap length ds ∙ count-append (x .since) (x .collected ++ U) ∙ ap (λ (k : ℕ). count (x .since) + k) (count-append (x .collected) U) in
       record {
-        frames = madeAll (x .since) (x .under);
-        valid = madeValid n b′ (x .since) (x .under) (validIs .0);
+        frames = madeAll S′ (x .under);
+        valid = madeValid n b′ S′ (x .under) (validIs .0);
         lies = rw (ml .0) (record {
           stands = record {
-            size = placed-length upTo (encode (x .since)) l fit ∙ h .lies .stands .size;
-            right = omega (arith, listEq, w .0, w .1, width-append (x .since) U);
+            size = placed-length upTo (encode S′) l fit ∙ h .lies .stands .size;
+            right = omega (arith, listEq, w .0, w .1, width-append S′ U);
             cells =
-                drop-placed upTo (encode (x .since)) l (omega arith)
-                ∙ ap (λ (k : ℕ). encode (x .since) ++ drop k l) (let e : upTo + width (x .since) ≡ A + listPrice (x .list) + width (x .collected) = omega (arith, listEq, w .0, w .1) in e)
-                ∙ ap (λ (k : List ℕ). encode (x .since) ++ k)
+                drop-placed upTo (encode S′) l (omega arith)
+                ∙ ap (λ (k : ℕ). encode S′ ++ drop k l) (let e : upTo + width S′ ≡ A + listPrice (x .list) + width (x .collected) = omega (arith, listEq, w .0, w .1) in e)
+                ∙ ap (λ (k : List ℕ). encode S′ ++ k)
                 (sym (drop-drop (width (x .collected)) (A + listPrice (x .list)) l)
                 ∙ ap (drop (width (x .collected))) (lists .behind ∙ append-nil (encode (x .collected ++ U)) ∙ encode-append (x .collected) U)
                 ∙ drop-at (encode (x .collected)) (encode U) (width (x .collected)) refl)
-                ∙ sym (encode-append (x .since) U);
+                ∙ sym (encode-append S′ U);
             definitions =
                 ap (without (b′ + count U) (b′ + count (x .collected ++ U))) (h .lies .stands .definitions ∙ ap (λ (k : List Definition). k ++ older) ds)
-                ∙ without-items (x .since) (x .collected) U older (b′ + count U) (b′ + count (x .collected ++ U)) refl refl;
-            live = omega (arith, h .lies .stands .live, counts, count-append (x .since) U);
+                ∙ without-items (x .since) (x .collected) U older (b′ + count U) (b′ + count (x .collected ++ U)) refl refl
+                ∙ ap (λ (k : List Definition). k ++ older)
+                (definitions-append (x .since) U ∙ ap (λ (k : List Definition). k ++ definitionsOf U) (sym (relinked-definitions n U (x .since))) ∙ sym (definitions-append S′ U));
+            live = omega (arith, h .lies .stands .live, counts, count-append S′ U);
           };
           read = h .lies .read;
           scans = h .lies .scans;
           most = h .lies .most;
           wrote = h .lies .wrote;
+          indexed = index₃;
         });
         cellsLent = h .cellsLent;
         ordered = omega (arith, h .ordered);
@@ -270,22 +343,25 @@ module _ {n : ℕ} {older : List Definition} {whole start : List ℕ} {r : Run} 
             ∙ ap (λ (k : Places). record { left = k .left; call = k .call; hand = k .hand; list = p .list; body = p .body; offset = p .offset }) placesIs
             ∙ sym (ml .1);
         leftsAre =
-            sym (take-take (r .calls .left) upTo (placed upTo (encode (x .since)) l) (omega (arith, h .ordered)))
-            ∙ ap (take (r .calls .left)) (take-placed upTo (encode (x .since)) l (omega arith))
+            sym (take-take (r .calls .left) upTo cells′ (omega (arith, h .ordered)))
+            ∙ ap (take (r .calls .left)) (take-placed upTo (encode S′) l (omega arith))
             ∙ take-take (r .calls .left) upTo l (omega (arith, h .ordered))
             ∙ leftsIs
-            ∙ sym (madeLefts n b′ (x .since) (x .under));
-        callsAre = callsIs ∙ sym (madeCalls n b′ (x .since) (x .under));
-        bodiesAre = sym (madeBodies n b′ (x .since) (x .under));
+            ∙ sym (madeLefts n b′ S′ (x .under));
+        callsAre = callsIs ∙ sym (madeCalls n b′ S′ (x .under));
+        bodiesAre = sym (madeBodies n b′ S′ (x .under));
         ahead = h .ahead;
         quotes = refl;
       }
 
   -- the code comes to that standing
   endsTo : M.endBodyTo r (rightBefore l (r .source .list)) (listLink l (r .source .list)) (returnLink l (r .source .list))
-      (definitions l (r .source .list + high (listLink l (r .source .list)) + listOverhead) (rightBefore l (r .source .list))) (lent l o)
-      ≡ M.goes (M.bodyEnded r to (packed (listPrice (x .list) - listOverhead) (places n b′ (x .under) .list)) (packed (places n b′ (x .under) .body) (places n b′ (x .under) .offset)) (count (x .collected)))
-      (lent (placed upTo (encode (x .since)) l) o)
+      (definitions l (r .source .list + high (listLink l (r .source .list)) + listOverhead) (rightBefore l (r .source .list))) heads (lent l o)
+      ≡ (record {
+        after = M.goes (M.bodyEnded r to (packed (listPrice (x .list) - listOverhead) (places n b′ (x .under) .list)) (packed (places n b′ (x .under) .body) (places n b′ (x .under) .offset)) (count (x .collected)))
+            (lent cells′ o);
+        heads = heads₃;
+      })
   unfolding Valid argumentsPrice
   endsTo =
       let w = widths in
@@ -312,16 +388,18 @@ module _ {n : ℕ} {older : List Definition} {whole start : List ℕ} {r : Run} 
         le-ltb (length l) to (omega (arith, h .lies .stands .size)),
         le-ltb (r .source .list) (r .right) (omega (arith, listEq, w .1)),
         le-ltb (r .counts .live) (count (x .collected)) (omega (arith, h .lies .stands .live)),
+        fromEq,
         movedIs,
+        relinkIs,
       )
 
 -- The end of a body.
-pub endBodySim : {n : ℕ} {older : List Definition} {whole start : List ℕ} {r : Run} {l o : List ℕ} {s : State}
-    → definitionsPrice older ≡ 0 → (h : Represents n older whole start r (lent l o) s) (B : Body) (Bs : List Body) → s .bodies ≡ B ∷ Bs
-    → Simulates n older whole start (M.endBody r (lent l o)) (S.bodyEnd (limitsOf n (length start)) (S.ownCall s) B Bs s)
-endBodySim {n} {older} {whole} {start} {r} {l} {o} {s} free h B Bs e = go (S.ownCall s) refl
+pub endBodySim : {n : ℕ} {older : List Definition} {heads whole start : List ℕ} {r : Run} {l o : List ℕ} {s : State}
+    → definitionsPrice older ≡ 0 → (h : Represents n older heads whole start r (lent l o) s) (B : Body) (Bs : List Body) → s .bodies ≡ B ∷ Bs
+    → SimulatesIndexed n older whole start (M.endBody r heads (lent l o)) (S.bodyEnd (limitsOf n (length start)) (S.ownCall s) B Bs s)
+endBodySim {n} {older} {heads} {whole} {start} {r} {l} {o} {s} free h B Bs e = go (S.ownCall s) refl
   where
-    go : (t : Bool) → S.ownCall s ≡ t → Simulates n older whole start (M.endBody r (lent l o)) (S.bodyEnd (limitsOf n (length start)) t B Bs s)
+    go : (t : Bool) → S.ownCall s ≡ t → SimulatesIndexed n older whole start (M.endBody r heads (lent l o)) (S.bodyEnd (limitsOf n (length start)) t B Bs s)
     go true q = rw (ownIs h ∙ q) (refusal free h Outcomes.bodyInCall)
     go false q =
         let b = length older in
@@ -331,7 +409,7 @@ endBodySim {n} {older} {whole} {start} {r} {l} {o} {s} free h B Bs e = go (S.own
         let eqs : B ∷ Bs ≡ bodyIs h x ∷ bodies n b (x .under) = sym e ∙ bodiesIs h x in
         let bodyEq : B ≡ bodyIs h x = cc in
         let restEq : Bs ≡ bodies n b (x .under) = cc in
-        let done : Simulates n older whole start (M.endBody r (lent l o)) (S.bodyEnd (limitsOf n (length start)) false (bodyIs h x) (bodies n b (x .under)) s) =
+        let done : SimulatesIndexed n older whole start (M.endBody r heads (lent l o)) (S.bodyEnd (limitsOf n (length start)) false (bodyIs h x) (bodies n b (x .under)) s) =
         rw (ownIs h ∙ q, endsTo h x) (goes refl (endsBody h x)) in
-        subst (λ (z : Body). Simulates n older whole start (M.endBody r (lent l o)) (S.bodyEnd (limitsOf n (length start)) false z Bs s)) (sym bodyEq)
-        (subst (λ (z : List Body). Simulates n older whole start (M.endBody r (lent l o)) (S.bodyEnd (limitsOf n (length start)) false (bodyIs h x) z s)) (sym restEq) done)
+        subst (λ (z : Body). SimulatesIndexed n older whole start (M.endBody r heads (lent l o)) (S.bodyEnd (limitsOf n (length start)) false z Bs s)) (sym bodyEq)
+        (subst (λ (z : List Body). SimulatesIndexed n older whole start (M.endBody r heads (lent l o)) (S.bodyEnd (limitsOf n (length start)) false (bodyIs h x) z s)) (sym restEq) done)

@@ -46,7 +46,7 @@ each k [] h = empty
 each zero (a ∷ list) (with x h) = x
 each (suc k) (a ∷ list) (with x h) = each k list h
 
-module _ {n : ℕ} {older : List Definition} {whole start : List ℕ} {r : Run} {l o : List ℕ} {s : State} (h : Represents n older whole start r (lent l o) s) where
+module _ {n : ℕ} {older : List Definition} {heads whole start : List ℕ} {r : Run} {l o : List ℕ} {s : State} (h : Represents n older heads whole start r (lent l o) s) where
   pub holdsOf : HoldsItems n l (r .right) (items n (length older) (h .frames))
   holdsOf = record { size = h .lies .stands .size; cellsLent = h .cellsLent; ends = h .lies .stands .right; cells = h .lies .stands .cells }
 
@@ -112,8 +112,8 @@ numbered x = letter (leb 97 x) (leb x 122) refl
     letter true false e = digit (leb 48 x) (leb x 57) refl
     letter false b e = digit (leb 48 x) (leb x 57) refl
 
-module _ {n : ℕ} {older : List Definition} {whole start : List ℕ} {r : Run} {l o : List ℕ} {s : State}
-    (free : definitionsPrice older ≡ 0) (h : Represents n older whole start r (lent l o) s) (B : Body) (Bs : List Body) (e : s .bodies ≡ B ∷ Bs) where
+module _ {n : ℕ} {older : List Definition} {heads whole start : List ℕ} {r : Run} {l o : List ℕ} {s : State}
+    (free : definitionsPrice older ≡ 0) (h : Represents n older heads whole start r (lent l o) s) (B : Body) (Bs : List Body) (e : s .bodies ≡ B ∷ Bs) where
   listed : Listed n (length older) l (r .right) (places n (length older) (h .frames) .list) B Bs
   listed = list-cells (h .frames) (h .valid) (holdsOf h) (sym (h .bodiesAre) ∙ e)
 
@@ -122,7 +122,7 @@ module _ {n : ℕ} {older : List Definition} {whole start : List ℕ} {r : Run} 
 
   -- parameter k of the body being read
   fetchNumberSim : (x : ℕ) (rest : Bytes) → B .rest ≡ x ∷ rest → All Octets (B .list) → (k : ℕ) → k < 36
-      → Simulates n older whole start (M.fetchArgument r (argument l (r .source .list + argumentsFrom) k) (lent l o))
+      → Simulates n older heads whole start (M.fetchArgument r (argument l (r .source .list + argumentsFrom) k) (lent l o))
       (S.fetchSupplied (limitsOf n (length start)) (ltb k (length (B .list))) (parameter k (B .list)) (S.withBodies (S.withRest rest B ∷ Bs) s))
   fetchNumberSim x rest q oct k small = go (ltb k (length (B .list))) refl
     where
@@ -136,7 +136,7 @@ module _ {n : ℕ} {older : List Definition} {whole start : List ℕ} {r : Run} 
       priced = omega (arith, listed .within, h .cellsLent)
 
       go : (t : Bool) → ltb k (length (B .list)) ≡ t
-          → Simulates n older whole start (M.fetchArgument r (argument l (r .source .list + argumentsFrom) k) (lent l o))
+          → Simulates n older heads whole start (M.fetchArgument r (argument l (r .source .list + argumentsFrom) k) (lent l o))
           (S.fetchSupplied (limitsOf n (length start)) t (parameter k (B .list)) (S.withBodies (S.withRest rest B ∷ Bs) s))
       go true z =
           let a = argument-at l (r .source .list + argumentsFrom) (B .list) more k c priced (ltb-true k (length (B .list)) z) in
@@ -152,15 +152,15 @@ module _ {n : ℕ} {older : List Definition} {whole start : List ℕ} {r : Run} 
 
   -- `~` in a body
   pub fetchBodySim : (T : Table) → Octets (B .rest) → All Octets (B .list)
-      → Simulates n older whole start (M.fetchInBody r (lent l o)) (S.fetchInBody (limitsOf n (length start)) (language T) (B .rest) B Bs s)
+      → Simulates n older heads whole start (M.fetchInBody r (lent l o)) (S.fetchInBody (limitsOf n (length start)) (language T) (B .rest) B Bs s)
   fetchBodySim T octets oct = go (B .rest) refl octets
     where
       byNumber : (x : ℕ) (rest : Bytes) → B .rest ≡ x ∷ rest → (k : ℕ) (j : Option ℕ) → Numbered k j
-          → Simulates n older whole start (M.fetchNumber r k (lent l o)) (S.fetchNumber (limitsOf n (length start)) j (B .list) (S.withBodies (S.withRest rest B ∷ Bs) s))
+          → Simulates n older heads whole start (M.fetchNumber r k (lent l o)) (S.fetchNumber (limitsOf n (length start)) j (B .list) (S.withBodies (S.withRest rest B ∷ Bs) s))
       byNumber x rest q k j no = refusal free h Outcomes.fetchesNothing
       byNumber x rest q k j (number m) = rw (ne-eqb k nowhere (λ (y : k ≡ nowhere). absurd (omega arith))) (fetchNumberSim x rest q oct k m)
 
-      go : (bs : Bytes) → B .rest ≡ bs → Octets bs → Simulates n older whole start (M.fetchInBody r (lent l o)) (S.fetchInBody (limitsOf n (length start)) (language T) bs B Bs s)
+      go : (bs : Bytes) → B .rest ≡ bs → Octets bs → Simulates n older heads whole start (M.fetchInBody r (lent l o)) (S.fetchInBody (limitsOf n (length start)) (language T) bs B Bs s)
       go [] q oc = rw (bodyOver h B Bs e q) (refusal free h Outcomes.fetchesNothing)
       go (x ∷ rest) q (with small oc) =
           rw (bodyNext h B Bs e x rest q small, ne-eqb x nowhere (λ (y : x ≡ nowhere). absurd (omega arith)))

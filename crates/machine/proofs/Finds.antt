@@ -13,13 +13,16 @@ use Rattle.language.specs.Signs.{Bytes}
 use Rattle.language.specs.Definitions.{Macro, Definition, found, macro, among}
 use Rattle.language.specs.Definitions as D
 use Rattle.language.specs.Charge.{argumentsPrice, listPrice}
+use Rattle.language.specs.Groups.{groups, group, ofGroup}
+use Rattle.language.proofs.Groups.{group-below, other-group, group-length}
 use Rattle.language.specs.Scanning.{Body, reading}
 use Rattle.memory.specs.Block.{block, same, sameBlocks}
 use Rattle.memory.proofs.Blocks.{ne-same, same-true, sameBlocks-in}
-use Rattle.machine.specs.Walks.{headSize, argumentsFrom, listOverhead, isLocked, nameLength, room, valueLength, rightBefore, listLink, returnLink, nowhere, mark, packed, high, low, argument, size, newestFrom, newest, definitionsFrom, definitions, isReadFrom, isRead}
-use Rattle.machine.proofs.Items.{list-size, definition-size, width-append, width-cons}
-use Rattle.machine.specs.Items.{Item, defined, listed, encodeArguments, encodeItem, encode, width, macroOf, definitionOf, definitionsOf, count, Definitions}
+use Rattle.machine.specs.Walks.{headSize, argumentsFrom, listOverhead, isLocked, nameLength, room, valueLength, groupLink, nameGroup, definitionGroup, rightBefore, listLink, returnLink, nowhere, mark, packed, high, low, argument, size, newestFrom, newest, definitionsFrom, definitions, isReadFrom, isRead}
+use Rattle.machine.proofs.Items.{count-width, list-size, definition-size, width-append, width-cons}
+use Rattle.machine.specs.Items.{Head, Item, defined, listed, encodeArguments, encodeItem, encode, width, macroOf, definitionOf, definitionsOf, count, Definitions}
 use Rattle.machine.specs.Frames.{Frame, made, collects, reads, address, At, here, there, listItem, laid, items, places, bodies, Valid}
+use Rattle.machine.specs.Index.{newestIn, Linked, Index}
 use Rattle.machine.specs.Held.{definitionAt, definitionsHeldFrom, definitionsHeld}
 use Rattle.machine.proofs.Lists.{packed-low, packed-high}
 
@@ -105,12 +108,12 @@ argument-past l p (a ∷ args) rest (suc k) e small h =
 -- Items in cells -----------------------------------------------------------------------------------------------------
 
 -- an item takes at least four cells
-item-size : (i : Item) → 4 ≤ length (encodeItem i)
+pub item-size : (i : Item) → 4 ≤ length (encodeItem i)
 item-size (defined f name value spare) = omega (arith, definition-size f name value spare)
 item-size (listed to links reader list) = omega (arith, list-size to links reader list)
 
 -- what stands behind an item
-drop-item : (l : List ℕ) (p : ℕ) (i : Item) (its : List Item) (rest : List ℕ) → drop p l ≡ encode (i ∷ its) ++ rest
+pub drop-item : (l : List ℕ) (p : ℕ) (i : Item) (its : List Item) (rest : List ℕ) → drop p l ≡ encode (i ∷ its) ++ rest
     → drop (p + length (encodeItem i)) l ≡ encode its ++ rest
 unfolding encode
 drop-item l p i its rest e =
@@ -127,11 +130,11 @@ pub record DefinitionAt (l : List ℕ) (d : ℕ) (name : Bytes) (c : Macro) : Ty
   pub valueIs : block (d + headSize + length name) (length (c .value)) l ≡ c .value
 
 -- a definition among items has these cells
-pub definition-at : (l : List ℕ) (p f : ℕ) (name value spare : Bytes) (its : List Item) (rest : List ℕ)
+pub definition-at : (l : List ℕ) (p : ℕ) (f : Head) (name value spare : Bytes) (its : List Item) (rest : List ℕ)
     → drop p l ≡ encode (defined f name value spare ∷ its) ++ rest → DefinitionAt l p name (macroOf f value spare)
 unfolding encode
 definition-at l p f name value spare its rest e =
-    let head : List ℕ = f ∷ length name ∷ (length value + length spare) ∷ length value ∷ [] in
+    let head : List ℕ = f .lock ∷ length name ∷ (length value + length spare) ∷ length value ∷ f .link ∷ [] in
     let s : drop p l ≡ head ++ (name ++ (value ++ (spare ++ (encode its ++ rest)))) = e ∙ simp append-assoc in
     let g : drop (p + headSize) l ≡ name ++ (value ++ (spare ++ (encode its ++ rest))) = drop-past l head (name ++ (value ++ (spare ++ (encode its ++ rest)))) p headSize s refl in
     let w : drop (p + headSize + length name) l ≡ value ++ (spare ++ (encode its ++ rest)) =
@@ -146,6 +149,26 @@ definition-at l p f name value spare its rest e =
       valueIs = block-of l value (spare ++ (encode its ++ rest)) (p + headSize + length name) w;
     }
 
+-- its link
+pub link-at : (l : List ℕ) (p : ℕ) (f : Head) (name value spare : Bytes) (its : List Item) (rest : List ℕ)
+    → drop p l ≡ encode (defined f name value spare ∷ its) ++ rest → groupLink l p ≡ f .link
+unfolding encode
+link-at l p f name value spare its rest e = cell-at l (encode (defined f name value spare ∷ its) ++ rest) p 4 e
+
+-- its group
+pub group-at : (l : List ℕ) (p : ℕ) (f : Head) (name value spare : Bytes) (its : List Item) (rest : List ℕ)
+    → drop p l ≡ encode (defined f name value spare ∷ its) ++ rest → definitionGroup l p ≡ group name
+group-at l p f name value spare its rest e =
+    let c = definition-at l p f name value spare its rest e in
+    rw (c .named, c .nameIs)
+
+-- and how many cells it takes
+pub definition-turned : (l : List ℕ) (p : ℕ) (f : Head) (name value spare : Bytes) (its : List Item) (rest : List ℕ)
+    → drop p l ≡ encode (defined f name value spare ∷ its) ++ rest → size l p ≡ length (encodeItem (defined f name value spare))
+definition-turned l p f name value spare its rest e =
+    let c = definition-at l p f name value spare its rest e in
+    omega (arith, definition-size f name value spare, c .named, c .roomy)
+
 -- Definitions counted ------------------------------------------------------------------------------------------------
 
 -- the walk counts the definitions, given turns enough
@@ -157,11 +180,9 @@ definitions-in (suc t) l p to [] rest e ds q h = rw (le-leb to p (omega arith))
 definitions-in zero l p to (defined f name value spare ∷ since) rest e ds q h = absurd (omega arith)
 definitions-in (suc t) l p to (defined f name value spare ∷ since) rest e ds q h =
     let i : Item = defined f name value spare in
-    let c = definition-at l p f name value spare since rest e in
     let w = width-cons i since in
     let n = item-size i in
-    let m : size l p ≡ length (encodeItem i) = omega (arith, definition-size f name value spare) in
-    rw (lt-leb to p (omega arith), m)
+    rw (lt-leb to p (omega arith), definition-turned l p f name value spare since rest e)
     (ap suc (definitions-in t l (p + length (encodeItem i)) to since rest (drop-item l p i since rest e) ds (omega arith) (omega arith)))
 definitions-in t l p to (listed a links reader list ∷ since) rest e ds q h = absurd ds
 
@@ -180,7 +201,7 @@ pub record HoldsItems (n : ℕ) (l : List ℕ) (p : ℕ) (its : List Item) : Typ
   pub cells : drop p l ≡ encode its
 
 -- nothing stands behind them
-held : {n : ℕ} {l : List ℕ} {p : ℕ} {its : List Item} → HoldsItems n l p its → drop p l ≡ encode its ++ []
+pub held : {n : ℕ} {l : List ℕ} {p : ℕ} {its : List Item} → HoldsItems n l p its → drop p l ≡ encode its ++ []
 held {its = its} h = h .cells ∙ sym (append-nil (encode its))
 
 -- the cells behind the first item hold the others
@@ -260,7 +281,7 @@ defines-there : {n base : ℕ} {l : List ℕ} {p q : ℕ} {i : Item} {its : List
 defines-there h c = record { at = there (c .at); cells = c .cells; from = omega (arith, c .from); within = c .within; below = c .below }
 
 -- the first of the items, where it is a definition
-defines-here : {n base : ℕ} {l : List ℕ} {p f : ℕ} {name value spare : Bytes} {its : List Item} → HoldsItems n l p (defined f name value spare ∷ its)
+defines-here : {n base : ℕ} {l : List ℕ} {p : ℕ} {f : Head} {name value spare : Bytes} {its : List Item} → HoldsItems n l p (defined f name value spare ∷ its)
     → Defines n base l p (defined f name value spare ∷ its) p (base + count its) name (macroOf f value spare)
 defines-here {n} {base} {l} {p} {f} {name} {value} {spare} {its} h =
     let w = width-cons (defined f name value spare) its in
@@ -273,7 +294,7 @@ pub at-cells : {n base : ℕ} {l : List ℕ} {p : ℕ} {its : List Item} {d k : 
     → (name : Bytes) × (room : ℕ) × (locked : Bool) × Defines n base l p its d k name (record { value = v; room = room; locked = locked })
 at-cells {p = p} h (here {f = f} {name = name} {value = value} {spare = spare} {d = d} e q) =
     let x : d ≡ p = omega (arith, h .ends) in
-    (name, length value + length spare, ltb 0 f, rw (x, q) (defines-here h))
+    (name, length value + length spare, ltb 0 (f .lock), rw (x, q) (defines-here h))
 at-cells h (there {i} a) = let r = at-cells (holds-rest h) a in (r .0, r .1, r .2, defines-there (omega arith) (r .3))
 
 -- The lists of the bodies --------------------------------------------------------------------------------------------
@@ -312,7 +333,7 @@ size-back (a ∷ list) back m h = omega (arith, packed-high (listPrice (a ∷ li
 -- links to the one before it
 data Chain (n base : ℕ) : List Item → ℕ → ℕ → List ℕ → Type 0 where
   unlinked : Chain n base [] nowhere 0 []
-  past : {f : ℕ} {name value spare : Bytes} {its : List Item} {list body : ℕ} {ks : List ℕ}
+  past : {f : Head} {name value spare : Bytes} {its : List Item} {list body : ℕ} {ks : List ℕ}
       → Chain n base its list body ks → Chain n base (defined f name value spare ∷ its) list body ks
   linked : {to links reader : ℕ} {args : List Bytes} {its : List Item} {list body at d k : ℕ} {v : Bytes} {ks : List ℕ}
       → at ≡ address n (listed to links reader args ∷ its) → high links + listOverhead ≡ listPrice args → low links ≡ list → high reader ≡ body
@@ -387,16 +408,15 @@ module _ (n base : ℕ) (lent : n ≤ 65536) where
 -- One turn of a walk --------------------------------------------------------------------------------------------------
 
 -- at a definition: it is within the cells, it is no list, and its size leads to the next item
-definition-turn : {n base : ℕ} {l : List ℕ} {p f : ℕ} {name value spare : Bytes} {its : List Item} {list body : ℕ} {ks : List ℕ}
+definition-turn : {n base : ℕ} {l : List ℕ} {p : ℕ} {f : Head} {name value spare : Bytes} {its : List Item} {list body : ℕ} {ks : List ℕ}
     → Chain n base its list body ks → HoldsItems n l p (defined f name value spare ∷ its)
     → (leb (length l) p ≡ false) × (eqb p list ≡ false) × (size l p ≡ length (encodeItem (defined f name value spare)))
 definition-turn {l = l} {p} {f} {name} {value} {spare} {its} {list} c h =
     let i : Item = defined f name value spare in
-    let d = definition-at l p f name value spare its [] (held h) in
     let w = width-cons i its in
     let z = item-size i in
     let q : p ≡ list → ⊥ = λ e. omega (arith, chain-above _ _ (h .cellsLent) c, h .ends) in
-    (lt-leb (length l) p (omega (arith, h .size, h .ends)), ne-eqb p list q, omega (arith, definition-size f name value spare, d .named, d .roomy))
+    (lt-leb (length l) p (omega (arith, h .size, h .ends)), ne-eqb p list q, definition-turned l p f name value spare its [] (held h))
 
 -- at a list: it is within the cells, it is the list, and its links lead to the next item and the next list
 list-turn : {n : ℕ} {l : List ℕ} {p to links reader at list : ℕ} {args : List Bytes} {its : List Item}
@@ -444,14 +464,14 @@ newest-listed h (absent e f) = absent e f
 newest-listed h (present {c = m} c f) = present {c = m} (defines-there h c) f
 
 -- and behind a definition with another name
-newest-other : {n base : ℕ} {l : List ℕ} {p q : ℕ} {its : List Item} {t : Bytes} {x f : ℕ} {name value spare : Bytes} → p ≤ q
+newest-other : {n base : ℕ} {l : List ℕ} {p q : ℕ} {its : List Item} {t : Bytes} {x : ℕ} {f : Head} {name value spare : Bytes} → p ≤ q
     → D.same t name ≡ false → Newest n base l q its t x → Newest n base l p (defined f name value spare ∷ its) t x
 unfolding definitionsOf D.newest
 newest-other h s (absent e f) = absent e (λ older. rw s (f older))
 newest-other h s (present {c = m} c f) = present {c = m} (defines-there h c) (λ older b. rw s (f older b))
 
 -- a definition with the name is the newest
-newest-here : {n base : ℕ} {l : List ℕ} {p : ℕ} {its : List Item} {t : Bytes} {f : ℕ} {name value spare : Bytes} → D.same t name ≡ true
+newest-here : {n base : ℕ} {l : List ℕ} {p : ℕ} {its : List Item} {t : Bytes} {f : Head} {name value spare : Bytes} → D.same t name ≡ true
     → HoldsItems n l p (defined f name value spare ∷ its) → Newest n base l p (defined f name value spare ∷ its) t p
 unfolding definitionsOf D.newest
 newest-here {base = base} {its = its} {t = t} {f = f} {name = name} {value = value} {spare = spare} s h =
@@ -464,7 +484,7 @@ newest-here {base = base} {its = its} {t = t} {f = f} {name = name} {value = val
     rw (s, e))
 
 -- so a definition is the newest, or those behind it have what they have
-newest-pick : {n base : ℕ} {l : List ℕ} {p q : ℕ} {its : List Item} (t : Bytes) {x f : ℕ} {name value spare : Bytes} → p ≤ q
+newest-pick : {n base : ℕ} {l : List ℕ} {p q : ℕ} {its : List Item} (t : Bytes) {x : ℕ} {f : Head} {name value spare : Bytes} → p ≤ q
     → HoldsItems n l p (defined f name value spare ∷ its) → Newest n base l q its t x
     → Newest n base l p (defined f name value spare ∷ its) t (cond (D.same t name) p x)
 newest-pick {n} {base} {l} {p} {its = its} t {x} {f} {name} {value} {spare} o h r = go (D.same t name) refl
@@ -475,7 +495,7 @@ newest-pick {n} {base} {l} {p} {its = its} t {x} {f} {name} {value} {spare} o h 
 
 module _ {n : ℕ} {l : List ℕ} (name : ℕ) (t : Bytes) (is : block (name + 1) (length t) l ≡ t) (fits : name + 1 + length t ≤ n) where
   -- the walk's test is that of the names
-  named-test : {p f : ℕ} {own value spare : Bytes} {its : List Item} → HoldsItems n l p (defined f own value spare ∷ its)
+  named-test : {p : ℕ} {f : Head} {own value spare : Bytes} {its : List Item} → HoldsItems n l p (defined f own value spare ∷ its)
       → cond (eqb (nameLength l p) (length t)) (sameBlocks (p + headSize) (name + 1) (length t) l) false ≡ D.same t own
   named-test {p} {f} {own} {value} {spare} {its} h = rw (c .named) (go (eqb (length own) (length t)) refl)
     where
@@ -491,33 +511,47 @@ module _ {n : ℕ} {l : List ℕ} (name : ℕ) (t : Bytes) (is : block (name + 1
           sameBlocks-in (p + headSize) (name + 1) (length t) l (omega (arith, h .ends, h .size)) (omega (arith, h .size)) ∙ rw (b, is) (same-turned own t)
       go false e = sym (sym (same-turned own t) ∙ ne-same own t (λ q. eqb-false (length own) (length t) e (ap length q)))
 
-  -- the walk finds the newest definition with the name, given turns enough
-  newest-in : {base : ℕ} (turns : ℕ) {p : ℕ} {its : List Item} {list body : ℕ} {ks : List ℕ} → Chain n base its list body ks → HoldsItems n l p its
-      → width its ≤ turns → Newest n base l p its t (newestFrom turns l p list name (length t))
-  unfolding newestFrom encode definitionsOf
-  newest-in zero unlinked h w = absent refl (λ older. refl)
-  newest-in (suc turns) {p = p} unlinked h w = rw (le-leb (length l) p (omega (arith, h .size, h .ends))) (absent refl (λ older. refl))
-  newest-in zero (past {f} {name = own} {value} {spare} {its} c) h w =
-      absurd (omega (arith, width-cons (defined f own value spare) its, item-size (defined f own value spare)))
-  newest-in (suc turns) {p = p} {list = list} (past {f} {name = own} {value} {spare} {its} c) h w =
-      let a = width-cons (defined f own value spare) its in
-      let z = item-size (defined f own value spare) in
-      let x = definition-turn c h in
-      rw (x .0, x .1, x .2, named-test h)
-      (newest-pick t (omega arith) h (newest-in turns c (holds-rest h) (omega arith)))
-  newest-in zero (linked {to} {links} {reader} {args} {its} a b e q d c) h w =
-      absurd (omega (arith, width-cons (listed to links reader args) its, item-size (listed to links reader args)))
-  newest-in (suc turns) {p = p} {list = list} (linked {to} {links} {reader} {args} {its} a b e q d c) h w =
-      let o = width-cons (listed to links reader args) its in
-      let z = item-size (listed to links reader args) in
-      let x = list-turn a b e h in
-      rw (x .0, x .1, x .2, x .3)
-      (newest-listed (omega arith) (newest-in turns c (holds-rest h) (omega arith)))
+  -- the walk along a group finds the newest definition with the name, given a turn for each definition of the group
+  pub newest-in : {base : ℕ} (turns : ℕ) {p : ℕ} (its : List Item) → HoldsItems n l p its → Linked n its
+      → length (ofGroup (group t) (definitionsOf its)) ≤ turns
+      → Newest n base l p its t (newestFrom turns l (newestIn n (group t) its) name (length t))
+  unfolding newestFrom newestIn Linked encode definitionsOf ofGroup
+  newest-in zero [] h k w = absent refl (λ older. refl)
+  newest-in (suc turns) [] h k w = rw (le-leb (length l) mark (omega (arith, h .size, h .cellsLent))) (absent refl (λ older. refl))
+  newest-in {base} turns {p} (listed to links reader args ∷ its) h k w =
+      newest-listed (omega arith) (newest-in turns its (holds-rest h) k w)
+  newest-in {base} turns {p} (defined f own value spare ∷ its) h k w =
+      go turns (eqb (group own) (group t)) refl w (λ j q. newest-in j its (holds-rest h) (k .1) q)
+    where
+      i : Item
+      i = defined f own value spare
+
+      a : width (i ∷ its) ≡ length (encodeItem i) + width its
+      a = width-cons i its
+
+      z : 4 ≤ length (encodeItem i)
+      z = item-size i
+
+      at : address n (i ∷ its) ≡ p
+      at = omega (arith, h .ends)
+
+      go : (j : ℕ) (b : Bool) → eqb (group own) (group t) ≡ b
+          → length (cond b (definitionOf f own value spare ∷ ofGroup (group t) (definitionsOf its)) (ofGroup (group t) (definitionsOf its))) ≤ j
+          → ((j : ℕ) → length (ofGroup (group t) (definitionsOf its)) ≤ j
+          → Newest n base l (p + length (encodeItem i)) its t (newestFrom j l (newestIn n (group t) its) name (length t)))
+          → Newest n base l p (i ∷ its) t (newestFrom j l (cond b (address n (i ∷ its)) (newestIn n (group t) its)) name (length t))
+      go zero true e w r = absurd (omega arith)
+      go (suc j) true e w r =
+          let q : group own ≡ group t = eqb-true (group own) (group t) e in
+          let link : groupLink l p ≡ newestIn n (group t) its = link-at l p f own value spare its [] (held h) ∙ k .0 ∙ ap (λ (g : ℕ). newestIn n g its) q in
+          rw (at, lt-leb (length l) p (omega (arith, h .size, h .ends, a, z)), named-test h, link) (newest-pick t (omega arith) h (r j (omega arith)))
+      go j false e w r =
+          newest-other (omega arith) (other-group t own (λ q. eqb-false (group own) (group t) e (sym q))) (r j w)
 
 -- The definitions read out of the cells ------------------------------------------------------------------------------
 
 -- a definition among items is read as it is
-definition-read : (l : List ℕ) (p f : ℕ) (name value spare : Bytes) (its : List Item) (rest : List ℕ)
+pub definition-read : (l : List ℕ) (p : ℕ) (f : Head) (name value spare : Bytes) (its : List Item) (rest : List ℕ)
     → drop p l ≡ encode (defined f name value spare ∷ its) ++ rest → definitionAt l p ≡ definitionOf f name value spare
 definition-read l p f name value spare its rest e =
     let d = definition-at l p f name value spare its rest e in
@@ -651,10 +685,11 @@ list-cells {n} {base} {l} {right} (reads list since d k x o ∷ fs) {b} {bs} v h
 module _ {n base : ℕ} {l : List ℕ} {right : ℕ} (fs : List Frame) (valid : Valid n base fs)
     (h : HoldsItems n l right (items n base fs)) where
   -- the newest definition with the name in the cells at a length cell
-  pub newest-finds : {list : ℕ} (name : ℕ) (t : Bytes) → list ≡ places n base fs .list → getD l name 0 ≡ length t → block (name + 1) (length t) l ≡ t
-      → name + 1 + length t ≤ n → Newest n base l right (items n base fs) t (newest l right list name)
-  newest-finds name t e c is fits =
-      rw (e, c) (newest-in name t is fits (length l) (chain-of n base (h .cellsLent) fs valid (omega arith)) h (omega arith))
+  pub newest-finds : {heads : List ℕ} (name : ℕ) (t : Bytes) → Index n (items n base fs) heads → getD l name 0 ≡ length t → block (name + 1) (length t) l ≡ t
+      → name + 1 + length t ≤ n → Newest n base l right (items n base fs) t (newest l heads name)
+  newest-finds name t x c is fits =
+      rw (c, is, x .headed (group t) (group-below t)) (newest-in name t is fits (length l) (items n base fs) h (x .linked)
+      (omega (arith, group-length (group t) (definitionsOf (items n base fs)), count-width (items n base fs))))
 
   -- whether the body of a definition is read is whether its number is among those that are read
   pub isRead-finds : {list body d k : ℕ} {v : Bytes} → list ≡ places n base fs .list → body ≡ places n base fs .body

@@ -5,6 +5,7 @@ use mathlib.Core.Path.{_≡_, refl, sym}
 use mathlib.Core.List.{List, [], _∷_}
 use lib.ListN.{length, drop}
 use Rattle.language.specs.Signs.{Bytes, cellsLimit}
+use Rattle.language.specs.Groups.{groups}
 use Rattle.language.specs.BuiltIns.{builtIns}
 use Rattle.language.specs.Octets.{Octets}
 use Rattle.language.specs.Scanning as S
@@ -14,7 +15,9 @@ use Rattle.language.proofs.Demand.{builtIns-free}
 use Rattle.machine.specs.Machine.{fresh}
 use Rattle.machine.specs.Items.{encode, definitionsOf}
 use Rattle.machine.specs.Frames.{laid, lefts, calls, bodies, Valid}
+use Rattle.machine.specs.Index.{noHeads}
 use Rattle.machine.specs.Moving.{Holds}
+use Rattle.machine.proofs.Indexing.{no-index}
 
 -- nothing stands past the end of a list
 past : (l : List ℕ) (k : ℕ) → length l ≤ k → drop k l ≡ []
@@ -25,7 +28,7 @@ past (x ∷ l) (suc k) h = past l k (omega arith)
 
 -- it holds the state from which a run starts
 pub freshHolds : (text : Bytes) (m : Lent) → length (m .cells) ≤ cellsLimit → Octets text
-    → Holds text (m .output) (fresh (length (m .cells))) m (S.start text builtIns)
+    → Holds (noHeads groups) text (m .output) (fresh (length (m .cells))) m (S.start text builtIns)
 unfolding laid lefts calls bodies Valid encode definitionsOf S.callsCharge S.bodiesCharge
 freshHolds text m small oct = record {
   represents = record {
@@ -33,6 +36,7 @@ freshHolds text m small oct = record {
     valid = tt;
     lies = record {
       stands = record { size = refl; right = omega arith; cells = past (m .cells) (length (m .cells)) (omega arith); definitions = refl; live = refl };
+      indexed = no-index (length (m .cells));
       wrote = record { written = refl; output = refl; enough = zero-le };
       read = refl;
       scans = refl;

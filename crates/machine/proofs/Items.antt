@@ -7,7 +7,7 @@ use lib.ListN.{length, length-append}
 use Rattle.language.specs.Signs.{Bytes}
 use Rattle.language.specs.Charge.{argumentsPrice, collectedPrice, listPrice}
 use Rattle.machine.specs.Walks.{mark, headSize}
-use Rattle.machine.specs.Items.{Item, defined, listed, encodeArguments, encodeItem, encode, width, definitionsOf, count, encodeCall}
+use Rattle.machine.specs.Items.{Head, Item, defined, listed, encodeArguments, encodeItem, encode, width, definitionsOf, count, encodeCall}
 
 -- the argument in hand ended too
 pub encode-arguments-last : (a : List Bytes) (h : Bytes) → encodeArguments (a ++ (h ∷ [])) ≡ encodeArguments a ++ (length h ∷ h)
@@ -30,7 +30,7 @@ call-size to from links waits ended hand = omega (arith, length-append (encodeAr
 pub list-size : (to links reader : ℕ) (a : List Bytes) → length (encodeItem (listed to links reader a)) ≡ listPrice a
 list-size to links reader a = omega (arith, length-append (encodeArguments a) (mark ∷ []), arguments-size a)
 
-pub definition-size : (f : ℕ) (name value spare : Bytes)
+pub definition-size : (f : Head) (name value spare : Bytes)
     → length (encodeItem (defined f name value spare)) ≡ headSize + length name + (length value + length spare)
 definition-size f name value spare = omega (arith, length-append name (value ++ spare), length-append value spare)
 

@@ -8,6 +8,7 @@ pub mod Stack
 pub mod Moves
 pub mod Represents
 pub mod Finds
+pub mod Indexing
 pub mod Showing
 pub mod Putting
 pub mod Opening
@@ -30,3 +31,4 @@ pub mod Noting
 pub mod Advancing
 pub mod Fresh
 pub mod Carried
+pub mod Grouping

@@ -1,11 +1,11 @@
 -- Laws about numbers in cells and about lists, for all that follows.
-use Prim.Native.Nat.{ℕ, _+_, _≤_, _<_}
+use Prim.Native.Nat.{ℕ, suc, _+_, _≤_, _<_}
 use native.Mathlib.Omega.{arith}
 use mathlib.Core.Path.{_≡_, refl, sym, ap, _∙_}
 use mathlib.Core.List.{List, [], _∷_, _++_, append-assoc}
-use lib.ListN.{length, drop, set, length-append}
-use lib.Seq.{take-at, drop-at, drop-drop}
-use Rattle.memory.specs.Block.{placed}
+use lib.ListN.{length, take, drop, getD, set, length-append}
+use lib.Seq.{take-at, drop-at, drop-cons, drop-drop}
+use Rattle.memory.specs.Block.{block, placed}
 use Rattle.memory.proofs.Blocks.{placed-after, placed-none}
 use Rattle.machine.specs.Walks.{packed, high, low, cell}
 
@@ -20,6 +20,13 @@ packed-low a b h = omega arith
 -- the high part of a packed pair
 pub packed-high : (a b : ℕ) → a < 65536 → high (packed a b) ≡ a
 packed-high a b h = omega arith
+
+-- a block by its first cell and the others
+pub block-cons : (p k : ℕ) (l : List ℕ) → p < length l → block p (k + 1) l ≡ getD l p 0 ∷ block (p + 1) k l
+block-cons p k l h =
+    let e : k + 1 ≡ suc k = omega arith in
+    let e₂ : suc p ≡ p + 1 = omega arith in
+    ap (λ (j : ℕ). block p j l) e ∙ ap (take (suc k)) (drop-cons l p 0 h) ∙ ap (λ (j : ℕ). getD l p 0 ∷ take k (drop j l)) e₂
 
 -- One element set is a piece of one placed.
 pub set-placed : (l : List ℕ) (i v : ℕ) → i < length l → set l i v ≡ placed i (v ∷ []) l

@@ -1,7 +1,7 @@
 -- The names of the built-ins and the operands of the arithmetic, as they are read from cells.
 use Prim.Native.Nat.{ℕ, _+_, _≤_}
 use native.Mathlib.Omega.{arith}
-use mathlib.Core.Path.{_≡_, refl}
+use mathlib.Core.Path.{_≡_, refl, ap, _∙_}
 use mathlib.Core.Bool.{Bool, true, false, cond, _&&_}
 use mathlib.Core.List.{List, [], _∷_}
 use mathlib.Core.Option.{Option, none, some}
@@ -20,6 +20,8 @@ use Rattle.language.specs.Signs.{Bytes}
 use Rattle.language.specs.Outcomes
 use Rattle.language.specs.Definitions.{Content, macro, builtIn, Definition, Found, found, missing, newest, counts, live}
 use Rattle.language.specs.Definitions as D
+use Rattle.language.specs.Groups.{group, ofGroup, contentOf}
+use Rattle.language.proofs.Groups.{group-finds}
 use Rattle.language.specs.BuiltIns.{builtIns}
 use Rattle.language.specs.Charge.{argumentsPrice}
 use Rattle.language.proofs.Lists.{either}
@@ -46,6 +48,13 @@ argument-text x h = record { counted = x .counted; bytes = x .bytes; within = om
 abbrev pub namedOf : Found → Named
 namedOf missing = Unknown
 namedOf (found k c) = namedAs c
+
+-- which is a matter of the content
+named-content : (x y : Found) → contentOf x ≡ contentOf y → namedOf x ≡ namedOf y
+named-content missing missing e = refl
+named-content missing (found j c) e = let z : _≡_ {A = ℕ} 0 1 = cc in absurd (omega arith)
+named-content (found k c) missing e = let z : _≡_ {A = ℕ} 0 1 = cc in absurd (omega arith)
+named-content (found k c) (found j d) e = let z : c ≡ d = cc in ap namedAs z
 
 -- nothing was found, or a built-in
 pub data Own : Found → Type 0 where
@@ -107,7 +116,7 @@ builtIns-only t = own-of t builtIns refl
 
 -- the code finds the built-in that has the name in the cells
 pub builtInNamed-is : {l : List ℕ} {name : ℕ} {t : Bytes} → TextAt l name t → builtInNamed l name ≡ namedOf (newest t builtIns)
-builtInNamed-is h = first-is h builtIns
+builtInNamed-is {t = t} h = rw (h .counted, h .bytes) (first-is h (ofGroup (group t) builtIns) ∙ named-content (newest t (ofGroup (group t) builtIns)) (newest t builtIns) (group-finds t builtIns))
 
 -- the code reads the operand in the cells
 pub operandAt-is : {l : List ℕ} {p : ℕ} {t : Bytes} → TextAt l p t → Octets t → operandAt l p ≡ operand t

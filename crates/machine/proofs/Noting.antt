@@ -22,12 +22,12 @@ use Rattle.language.proofs.Origins.{scan-writes, none-at-end, origins-stop}
 use Rattle.machine.specs.declared.run.Run.{Run}
 use Rattle.machine.specs.declared.run.Answer.the-variants.{GoesOn}
 use Rattle.machine.specs.Walks.{cell}
-use Rattle.machine.specs.Machine.{After, goes, step, steps}
+use Rattle.machine.specs.Machine.{Indexed, goes, keeping, step, steps}
 use Rattle.machine.specs.Held.{Represents}
 use Rattle.machine.specs.Moving.{Holds}
 use Rattle.machine.specs.Origins.{notedFrom, Noted, rule, note, noteUnless, atOnce}
 use Rattle.machine.proofs.Lists.{cell-is}
-use Rattle.machine.proofs.Represents.{Simulates, goes as simulates, stops, outputSize}
+use Rattle.machine.proofs.Represents.{SimulatesIndexed, goes as simulates, stops, outputSize}
 use Rattle.machine.proofs.Simulating.{stepSim}
 use Rattle.machine.proofs.Steps.{one-scan}
 use Rattle.machine.proofs.Rules.{RuleIs, rule-is}
@@ -95,9 +95,9 @@ module _ (T : Table) (text first : Bytes) (n : ℕ) where
   G = language T
 
   -- of a state s₀ that was held before the first scan, when so many bytes were written and the numbers were ns₀
-  pub record Tracing (due₀ : ℕ) (s₀ : State) (written₀ : ℕ) (ns₀ : Numbers) (r : Run) (m : Lent) (ns : Numbers) (until : ℕ) : Type 0 where
+  pub record Tracing (due₀ : ℕ) (s₀ : State) (written₀ : ℕ) (ns₀ : Numbers) (r : Run) (h : List ℕ) (m : Lent) (ns : Numbers) (until : ℕ) : Type 0 where
     pub state : State
-    pub represents : Represents n builtIns text first r m state
+    pub represents : Represents n builtIns h text first r m state
     pub octets : HoldsOctets state
     pub done : List Origin
     pub all : originsFrom L G due₀ (next s₀) ≡ done ++ originsFrom L G (until - r .counts .scans) (next state)
@@ -107,28 +107,28 @@ module _ (T : Table) (text first : Bytes) (n : ℕ) where
     pub origins : length first ≤ length (ns₀ .origins)
     pub rules : length first ≤ length (ns₀ .rules)
 
-  module _ {due₀ : ℕ} {s₀ : State} {written₀ : ℕ} {ns₀ : Numbers} {r : Run} {m : Lent} {ns : Numbers} {until : ℕ}
-      (x : Tracing due₀ s₀ written₀ ns₀ r m ns until) (some : r .counts .scans < until) (a : After) (e : a ≡ step r T text m) where
+  module _ {due₀ : ℕ} {s₀ : State} {written₀ : ℕ} {ns₀ : Numbers} {r : Run} {ix : List ℕ} {m : Lent} {ns : Numbers} {until : ℕ}
+      (x : Tracing due₀ s₀ written₀ ns₀ r ix m ns until) (some : r .counts .scans < until) (a : Indexed) (e : a ≡ step r T text ix m) where
     abbrev s : State
     s = x .state
 
     more : until - r .counts .scans ≡ suc (until - (r .counts .scans + 1))
     more = omega arith
 
-    simulated : Simulates n builtIns text first a (scan L G s)
-    simulated = subst (λ (y : After). Simulates n builtIns text first y (scan L G s)) (sym e) (stepSim T (x .represents) (x .octets))
+    simulated : SimulatesIndexed n builtIns text first a (scan L G s)
+    simulated = subst (λ (y : Indexed). SimulatesIndexed n builtIns text first y (scan L G s)) (sym e) (stepSim T (x .represents) (x .octets))
 
     -- what is due begins with this scan
     due : originsFrom L G due₀ (next s₀) ≡ x .done ++ (scanOrigins (writes G s) (scan L G s) ++ originsFrom L G (until - (r .counts .scans + 1)) (scan L G s))
     unfolding originsFrom
     due = x .all ∙ ap (λ (j : ℕ). x .done ++ originsFrom L G j (next s)) more
 
-    pub traced : a .answer ≡ GoesOn → a .run .counts .scans ≡ r .counts .scans + 1
-        → Tracing due₀ s₀ written₀ ns₀ (a .run) (a .lent) (note r (a .run) (rule r T (m .cells)) ns) until
+    pub traced : a .after .answer ≡ GoesOn → a .after .run .counts .scans ≡ r .counts .scans + 1
+        → Tracing due₀ s₀ written₀ ns₀ (a .after .run) (a .heads) (a .after .lent) (note r (a .after .run) (rule r T (m .cells)) ns) until
     traced on once = go (scan L G s) refl simulated
       where
-        go : (t : Step) → scan L G s ≡ t → Simulates n builtIns text first a t
-            → Tracing due₀ s₀ written₀ ns₀ (a .run) (a .lent) (note r (a .run) (rule r T (m .cells)) ns) until
+        go : (t : Step) → scan L G s ≡ t → SimulatesIndexed n builtIns text first a t
+            → Tracing due₀ s₀ written₀ ns₀ (a .after .run) (a .heads) (a .after .lent) (note r (a .after .run) (rule r T (m .cells)) ns) until
         go (stop y) q (stops h) = let z : _≡_ {A = ℕ} 0 1 = cc (h .answer) in absurd (omega arith)
         go (next s₁) q (simulates g h) =
             let w = writes G s in
@@ -139,16 +139,16 @@ module _ (T : Table) (text first : Bytes) (n : ℕ) where
             let long = ap length (sc .output) ∙ length-append (s .standing .output) (bytesIn w) in
             let before = x .represents .lies .wrote .written in
             let after = h .lies .wrote .written in
-            let count : a .run .counts .written - r .counts .written ≡ length (bytesIn w) = omega arith in
+            let count : a .after .run .counts .written - r .counts .written ≡ length (bytesIn w) = omega arith in
             let fits : r .counts .written + length (bytesIn w) ≤ length first = omega (arith, h .lies .wrote .enough) in
             let counted : s₁ .standing .read + length (s₁ .text) < 4294967296 =
             omega (arith, x .counted, sc .read, ap length (sc .text), length-drop (sc .taken) (s .text), sc .within) in
-            let read : cell (a .run .counts .read) ≡ s₁ .standing .read = ap cell (h .lies .read) ∙ cell-is (s₁ .standing .read) (omega arith) in
-            let reads : readsOf os ≡ repeated (a .run .counts .written - r .counts .written) (cell (a .run .counts .read)) =
-            mine .reads ∙ ap (λ (c : ℕ). repeated c (s₁ .standing .read)) (sym count) ∙ ap (repeated (a .run .counts .written - r .counts .written)) (sym read) in
-            let rules : rulesOf os ≡ repeated (a .run .counts .written - r .counts .written) k = mine .rules ∙ ap (λ (c : ℕ). repeated c k) (sym count) in
-            let first′ = column (λ (o : Origin). o .read) written₀ (x .done) os (r .counts .written) (a .run .counts .written - r .counts .written) (cell (a .run .counts .read)) (ns₀ .origins) (x .wrote) (omega (arith, x .origins)) reads in
-            let second = column (λ (o : Origin). o .rule) written₀ (x .done) os (r .counts .written) (a .run .counts .written - r .counts .written) k (ns₀ .rules) (x .wrote) (omega (arith, x .rules)) rules in
+            let read : cell (a .after .run .counts .read) ≡ s₁ .standing .read = ap cell (h .lies .read) ∙ cell-is (s₁ .standing .read) (omega arith) in
+            let reads : readsOf os ≡ repeated (a .after .run .counts .written - r .counts .written) (cell (a .after .run .counts .read)) =
+            mine .reads ∙ ap (λ (c : ℕ). repeated c (s₁ .standing .read)) (sym count) ∙ ap (repeated (a .after .run .counts .written - r .counts .written)) (sym read) in
+            let rules : rulesOf os ≡ repeated (a .after .run .counts .written - r .counts .written) k = mine .rules ∙ ap (λ (c : ℕ). repeated c k) (sym count) in
+            let first′ = column (λ (o : Origin). o .read) written₀ (x .done) os (r .counts .written) (a .after .run .counts .written - r .counts .written) (cell (a .after .run .counts .read)) (ns₀ .origins) (x .wrote) (omega (arith, x .origins)) reads in
+            let second = column (λ (o : Origin). o .rule) written₀ (x .done) os (r .counts .written) (a .after .run .counts .written - r .counts .written) k (ns₀ .rules) (x .wrote) (omega (arith, x .rules)) rules in
             record {
               state = s₁;
               represents = h;
@@ -161,8 +161,8 @@ module _ (T : Table) (text first : Bytes) (n : ℕ) where
                   ∙ ap (λ (j : ℕ). (x .done ++ os) ++ originsFrom L G (until - j) (next s₁)) (sym once);
               wrote = omega (arith, length-append (x .done) os, mine .count, x .wrote);
               numbers =
-                  ap (note r (a .run) k) (x .numbers)
-                  ∙ ap (λ (y : List ℕ). numbers y (filled (r .counts .written) (a .run .counts .written - r .counts .written) k (placed written₀ (rulesOf (x .done)) (ns₀ .rules)))) first′
+                  ap (note r (a .after .run) k) (x .numbers)
+                  ∙ ap (λ (y : List ℕ). numbers y (filled (r .counts .written) (a .after .run .counts .written - r .counts .written) k (placed written₀ (rulesOf (x .done)) (ns₀ .rules)))) first′
                   ∙ ap (numbers (placed written₀ (readsOf (x .done ++ os)) (ns₀ .origins))) second;
               counted = counted;
               origins = x .origins;
@@ -170,10 +170,10 @@ module _ (T : Table) (text first : Bytes) (n : ℕ) where
             }
 
     -- the scan that ends the run adds nothing
-    pub traced-ended : (a .answer ≡ GoesOn → ⊥) → ns ≡ notedFrom written₀ (originsFrom L G due₀ (next s₀)) ns₀
+    pub traced-ended : (a .after .answer ≡ GoesOn → ⊥) → ns ≡ notedFrom written₀ (originsFrom L G due₀ (next s₀)) ns₀
     traced-ended out = go (scan L G s) refl simulated
       where
-        go : (t : Step) → scan L G s ≡ t → Simulates n builtIns text first a t → ns ≡ notedFrom written₀ (originsFrom L G due₀ (next s₀)) ns₀
+        go : (t : Step) → scan L G s ≡ t → SimulatesIndexed n builtIns text first a t → ns ≡ notedFrom written₀ (originsFrom L G due₀ (next s₀)) ns₀
         go (stop y) q (stops h) =
             let none : originsFrom L G due₀ (next s₀) ≡ x .done =
             due
@@ -185,9 +185,9 @@ module _ (T : Table) (text first : Bytes) (n : ℕ) where
         go (next s₁) q (simulates g h) = absurd (out g)
 
   -- before the first scan nothing is noted
-  pub traces : {r : Run} {m : Lent} (due₀ : ℕ) (s₀ : State) (ns₀ : Numbers) → Represents n builtIns text first r m s₀ → HoldsOctets s₀
+  pub traces : {r : Run} {ix : List ℕ} {m : Lent} (due₀ : ℕ) (s₀ : State) (ns₀ : Numbers) → Represents n builtIns ix text first r m s₀ → HoldsOctets s₀
       → tooShort ns₀ (length first) ≡ false → s₀ .standing .read + length (s₀ .text) < 4294967296
-      → Tracing due₀ s₀ (r .counts .written) ns₀ r m ns₀ (r .counts .scans + due₀)
+      → Tracing due₀ s₀ (r .counts .written) ns₀ r ix m ns₀ (r .counts .scans + due₀)
   traces {r} due₀ s₀ ns₀ h oct long counted =
       let each = neither (ltb (length (ns₀ .origins)) (length first)) (ltb (length (ns₀ .rules)) (length first)) long in
       let all′ : due₀ ≡ r .counts .scans + due₀ - r .counts .scans = omega arith in
@@ -205,8 +205,8 @@ module _ (T : Table) (text first : Bytes) (n : ℕ) where
       }
 
   -- after the last one all is
-  pub traced-all : {due₀ : ℕ} {s₀ : State} {written₀ : ℕ} {ns₀ : Numbers} {r : Run} {m : Lent} {ns : Numbers} {until : ℕ}
-      → Tracing due₀ s₀ written₀ ns₀ r m ns until → until ≤ r .counts .scans → ns ≡ notedFrom written₀ (originsFrom L G due₀ (next s₀)) ns₀
+  pub traced-all : {due₀ : ℕ} {s₀ : State} {written₀ : ℕ} {ns₀ : Numbers} {r : Run} {ix : List ℕ} {m : Lent} {ns : Numbers} {until : ℕ}
+      → Tracing due₀ s₀ written₀ ns₀ r ix m ns until → until ≤ r .counts .scans → ns ≡ notedFrom written₀ (originsFrom L G due₀ (next s₀)) ns₀
   unfolding originsFrom
   traced-all {written₀ = written₀} {ns₀} {r} {until = until} x over =
       let none : until - r .counts .scans ≡ 0 = omega arith in
@@ -215,58 +215,58 @@ module _ (T : Table) (text first : Bytes) (n : ℕ) where
 
 -- Whatever state was held at first --------------------------------------------------------------------------------
 
-module _ (T : Table) (text : Bytes) (r₀ : Run) (m₀ : Lent) (due₀ : ℕ) (ns₀ : Numbers) where
+module _ (T : Table) (text : Bytes) (r₀ : Run) (h₀ : List ℕ) (m₀ : Lent) (due₀ : ℕ) (ns₀ : Numbers) where
   -- what the loop keeps
-  abbrev pub Notable : Run → Lent → Numbers → ℕ → Type 0
-  Notable r m ns until =
-      (start : Bytes) (s : State) → Holds text start r₀ m₀ s → tooShort ns₀ (length (m₀ .output)) ≡ false → s .standing .read + length (s .text) < 4294967296
-      → Tracing T text start (length (m₀ .cells)) due₀ s (r₀ .counts .written) ns₀ r m ns until
+  abbrev pub Notable : Run → List ℕ → Lent → Numbers → ℕ → Type 0
+  Notable r ix m ns until =
+      (start : Bytes) (s : State) → Holds h₀ text start r₀ m₀ s → tooShort ns₀ (length (m₀ .output)) ≡ false → s .standing .read + length (s .text) < 4294967296
+      → Tracing T text start (length (m₀ .cells)) due₀ s (r₀ .counts .written) ns₀ r ix m ns until
 
-  pub notable : Notable r₀ m₀ ns₀ (r₀ .counts .scans + due₀)
+  pub notable : Notable r₀ h₀ m₀ ns₀ (r₀ .counts .scans + due₀)
   notable start s x long counted =
       let size = outputSize (x .represents .lies) in
       traces T text start (length (m₀ .cells)) due₀ s ns₀ (x .represents) (x .octets) (ap (tooShort ns₀) (sym size) ∙ long) counted
 
   -- what it leaves
   all-noted : {ns : Numbers}
-      → ((start : Bytes) (s : State) → Holds text start r₀ m₀ s → tooShort ns₀ (length (m₀ .output)) ≡ false → s .standing .read + length (s .text) < 4294967296
+      → ((start : Bytes) (s : State) → Holds h₀ text start r₀ m₀ s → tooShort ns₀ (length (m₀ .output)) ≡ false → s .standing .read + length (s .text) < 4294967296
       → ns ≡ notedFrom (r₀ .counts .written) (originsFrom (limitsOf (length (m₀ .cells)) (length start)) (language T) due₀ (next s)) ns₀)
-      → Noted T text due₀ r₀ m₀ ns₀ ns
+      → Noted T text due₀ r₀ h₀ m₀ ns₀ ns
   all-noted h start s x long counted =
       h start s x long counted
       ∙ ap (λ (j : ℕ). notedFrom (r₀ .counts .written) (originsFrom (limitsOf (length (m₀ .cells)) j) (language T) due₀ (next s)) ns₀) (sym (outputSize (x .represents .lies)))
 
-  module _ {r : Run} {m : Lent} {ns : Numbers} {until : ℕ} (t : Notable r m ns until) where
-    pub noted-again : r .counts .scans < until → (a : After) → a ≡ step r T text m → a .answer ≡ GoesOn → a .run .counts .scans ≡ r .counts .scans + 1
-        → {k : ℕ} → k ≡ rule r T (m .cells) → {ns′ : Numbers} → ns′ ≡ note r (a .run) k ns → Notable (a .run) (a .lent) ns′ until
+  module _ {r : Run} {ix : List ℕ} {m : Lent} {ns : Numbers} {until : ℕ} (t : Notable r ix m ns until) where
+    pub noted-again : r .counts .scans < until → (a : Indexed) → a ≡ step r T text ix m → a .after .answer ≡ GoesOn → a .after .run .counts .scans ≡ r .counts .scans + 1
+        → {k : ℕ} → k ≡ rule r T (m .cells) → {ns′ : Numbers} → ns′ ≡ note r (a .after .run) k ns → Notable (a .after .run) (a .heads) (a .after .lent) ns′ until
     noted-again left₁ a e on once known is start s x long counted =
-        subst (λ (y : Numbers). Tracing T text start (length (m₀ .cells)) due₀ s (r₀ .counts .written) ns₀ (a .run) (a .lent) y until)
-        (sym (is ∙ ap (λ (j : ℕ). note r (a .run) j ns) known)) (traced T text start (length (m₀ .cells)) (t start s x long counted) left₁ a e on once)
+        subst (λ (y : Numbers). Tracing T text start (length (m₀ .cells)) due₀ s (r₀ .counts .written) ns₀ (a .after .run) (a .heads) (a .after .lent) y until)
+        (sym (is ∙ ap (λ (j : ℕ). note r (a .after .run) j ns) known)) (traced T text start (length (m₀ .cells)) (t start s x long counted) left₁ a e on once)
 
-    pub noted-ended : r .counts .scans < until → (a : After) → a ≡ step r T text m → (a .answer ≡ GoesOn → ⊥) → Noted T text due₀ r₀ m₀ ns₀ ns
+    pub noted-ended : r .counts .scans < until → (a : Indexed) → a ≡ step r T text ix m → (a .after .answer ≡ GoesOn → ⊥) → Noted T text due₀ r₀ h₀ m₀ ns₀ ns
     noted-ended left a e out = all-noted (λ start s x long counted. traced-ended T text start (length (m₀ .cells)) (t start s x long counted) left a e out)
 
-    pub noted-done : until ≤ r .counts .scans → Noted T text due₀ r₀ m₀ ns₀ ns
+    pub noted-done : until ≤ r .counts .scans → Noted T text due₀ r₀ h₀ m₀ ns₀ ns
     noted-done over = all-noted (λ start s x long counted. traced-all T text start (length (m₀ .cells)) (t start s x long counted) over)
 
     -- whether the scan was noted or several were made at once: that nothing is noted is told by the lengths
     module _ (silent : Bool) (told : silent ≡ tooShort ns₀ (length (m₀ .output))) (left : ℕ) where
-      pub noted-on : r .counts .scans < until → (a : After) → a ≡ steps (atOnce silent left) T text (goes r m) → a .answer ≡ GoesOn
-          → a .run .counts .scans ≡ r .counts .scans + atOnce silent left → {k : ℕ} → k ≡ rule r T (m .cells) → {ns′ : Numbers} → ns′ ≡ noteUnless silent r (a .run) k ns
-          → Notable (a .run) (a .lent) ns′ until
+      pub noted-on : r .counts .scans < until → (a : Indexed) → a ≡ steps (atOnce silent left) T text (keeping ix (goes r m)) → a .after .answer ≡ GoesOn
+          → a .after .run .counts .scans ≡ r .counts .scans + atOnce silent left → {k : ℕ} → k ≡ rule r T (m .cells) → {ns′ : Numbers} → ns′ ≡ noteUnless silent r (a .after .run) k ns
+          → Notable (a .after .run) (a .heads) (a .after .lent) ns′ until
       noted-on due a e on once {k} known {ns′} is = go silent told e once is
         where
-          go : (b : Bool) → b ≡ tooShort ns₀ (length (m₀ .output)) → a ≡ steps (atOnce b left) T text (goes r m) → a .run .counts .scans ≡ r .counts .scans + atOnce b left
-              → ns′ ≡ noteUnless b r (a .run) k ns → Notable (a .run) (a .lent) ns′ until
+          go : (b : Bool) → b ≡ tooShort ns₀ (length (m₀ .output)) → a ≡ steps (atOnce b left) T text (keeping ix (goes r m)) → a .after .run .counts .scans ≡ r .counts .scans + atOnce b left
+              → ns′ ≡ noteUnless b r (a .after .run) k ns → Notable (a .after .run) (a .heads) (a .after .lent) ns′ until
           go true t e₁ o i = λ start s x long counted. absurd (true≢false (t ∙ long))
-          go false t e₁ o i = noted-again due a (one-scan T text r m e₁) on o known i
+          go false t e₁ o i = noted-again due a (one-scan T text r ix m e₁) on o known i
 
-      pub noted-over : r .counts .scans < until → (a : After) → a ≡ steps (atOnce silent left) T text (goes r m) → (a .answer ≡ GoesOn → ⊥) → Noted T text due₀ r₀ m₀ ns₀ ns
+      pub noted-over : r .counts .scans < until → (a : Indexed) → a ≡ steps (atOnce silent left) T text (keeping ix (goes r m)) → (a .after .answer ≡ GoesOn → ⊥) → Noted T text due₀ r₀ h₀ m₀ ns₀ ns
       noted-over due a e out = go silent told e
         where
-          go : (b : Bool) → b ≡ tooShort ns₀ (length (m₀ .output)) → a ≡ steps (atOnce b left) T text (goes r m) → Noted T text due₀ r₀ m₀ ns₀ ns
+          go : (b : Bool) → b ≡ tooShort ns₀ (length (m₀ .output)) → a ≡ steps (atOnce b left) T text (keeping ix (goes r m)) → Noted T text due₀ r₀ h₀ m₀ ns₀ ns
           go true t e₁ = λ start s x long counted. absurd (true≢false (t ∙ long))
-          go false t e₁ = noted-ended due a (one-scan T text r m e₁) out
+          go false t e₁ = noted-ended due a (one-scan T text r ix m e₁) out
 
       -- what is too short stays as it is
       pub kept-on : (tooShort ns₀ (length (m₀ .output)) ≡ true → ns ≡ ns₀) → (r′ : Run) (k : ℕ) {ns′ : Numbers} → ns′ ≡ noteUnless silent r r′ k ns

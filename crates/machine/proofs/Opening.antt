@@ -129,8 +129,8 @@ module _ (n b : ℕ) (small : n ≤ 65536) where
       let z : f ≡ a → ⊥ = λ (e : f ≡ a). omega arith in
       ne-eqb f a z ∙ sym (le-ltb (length (calls n b fs)) (length (calls n b fs)) (omega arith))
 
-module _ {n : ℕ} {older : List Definition} {whole start : List ℕ} {r : Run} {l o : List ℕ} {s : State}
-    (free : definitionsPrice older ≡ 0) (h : Represents n older whole start r (lent l o) s) where
+module _ {n : ℕ} {older : List Definition} {heads whole start : List ℕ} {r : Run} {l o : List ℕ} {s : State}
+    (free : definitionsPrice older ≡ 0) (h : Represents n older heads whole start r (lent l o) s) where
   abbrev b : ℕ
   b = length older
 
@@ -152,7 +152,7 @@ module _ {n : ℕ} {older : List Definition} {whole start : List ℕ} {r : Run} 
 
   -- `$`
   opened : r .charge + openPrice ≤ n
-      → Represents n older whole start (M.opened r)
+      → Represents n older heads whole start (M.opened r)
       (lent (M.openAt r (r .calls .left) l) o)
       (S.withCalls (S.newCall (S.noting (S.charge s + openPrice) s) ∷ s .calls) (S.noting (S.charge s + openPrice) s))
   unfolding laid calls lefts bodies Valid argumentsPrice encodeArguments
@@ -165,7 +165,7 @@ module _ {n : ℕ} {older : List Definition} {whole start : List ℕ} {r : Run} 
       let cells : M.openAt r (r .calls .left) l ≡ placed (r .calls .left) bs l =
       rw (cell-is (r .right) (omega (arith, h .lies .stands .right, h .cellsLent)), cell-is (r .source .list) small)
       (threeSet l (r .calls .left) (r .right) (r .source .list) (packed (r .calls .hand) (r .calls .call)) (omega (arith, h .lies .stands .right, h .lies .stands .size))) in
-      subst (λ (x : List ℕ). Represents n older whole start (M.opened r) (lent x o) (S.withCalls (S.newCall (S.noting (S.charge s + openPrice) s) ∷ s .calls) (S.noting (S.charge s + openPrice) s)))
+      subst (λ (x : List ℕ). Represents n older heads whole start (M.opened r) (lent x o) (S.withCalls (S.newCall (S.noting (S.charge s + openPrice) s) ∷ s .calls) (S.noting (S.charge s + openPrice) s)))
       (sym cells)
       (record {
         frames = collects [] [] w ∷ fs;
@@ -182,6 +182,7 @@ module _ {n : ℕ} {older : List Definition} {whole start : List ℕ} {r : Run} 
           scans = h .lies .scans;
           most = rw (chargeIs free h, h .lies .most);
           wrote = h .lies .wrote;
+          indexed = h .lies .indexed;
         };
         cellsLent = h .cellsLent;
         ordered = fit;
@@ -198,11 +199,11 @@ module _ {n : ℕ} {older : List Definition} {whole start : List ℕ} {r : Run} 
         quotes = h .quotes;
       })
 
-  pub openSim : Simulates n older whole start (M.openCall r (lent l o)) (S.openCall (limitsOf n (length start)) s)
+  pub openSim : Simulates n older heads whole start (M.openCall r (lent l o)) (S.openCall (limitsOf n (length start)) s)
   openSim = charging free h 4 λ e. goes refl (opened e)
 
-module _ {n : ℕ} {older : List Definition} {whole start : List ℕ} {r : Run} {l o : List ℕ} {s : State}
-    (free : definitionsPrice older ≡ 0) (h : Represents n older whole start r (lent l o) s) where
+module _ {n : ℕ} {older : List Definition} {heads whole start : List ℕ} {r : Run} {l o : List ℕ} {s : State}
+    (free : definitionsPrice older ≡ 0) (h : Represents n older heads whole start r (lent l o) s) where
   -- the argument in hand of the innermost call, in the cells, and the cells once its length is written
   pub record Ending : Type 0 where
     pub before : List ℕ
@@ -262,7 +263,7 @@ module _ {n : ℕ} {older : List Definition} {whole start : List ℕ} {r : Run} 
 
   -- `,` in a call
   separated : Collects n (length older) (h .frames) → r .charge + 1 ≤ n
-      → Represents n older whole start (M.separated r) (lent (M.endArgument r l) o) (S.withCalls (separateHead (s .calls)) (S.noting (S.charge s + 1) s))
+      → Represents n older heads whole start (M.separated r) (lent (M.endArgument r l) o) (S.withCalls (separateHead (s .calls)) (S.noting (S.charge s + 1) s))
   separated c e =
       let b = length older in
       let fs = h .frames in
@@ -291,6 +292,7 @@ module _ {n : ℕ} {older : List Definition} {whole start : List ℕ} {r : Run} 
           scans = h .lies .scans;
           most = rw (chargeIs free h, h .lies .most);
           wrote = h .lies .wrote;
+          indexed = h .lies .indexed;
         });
         cellsLent = h .cellsLent;
         ordered = fit;
@@ -306,37 +308,37 @@ module _ {n : ℕ} {older : List Definition} {whole start : List ℕ} {r : Run} 
   -- By whether a call is open: where none is, the byte is written.
   byCalls : (x : ℕ) (a : After) (f : List Call → Step)
       → f [] ≡ S.put (limitsOf n (length start)) (x ∷ []) s
-      → ((c : Call) (cs : List Call) → s .calls ≡ c ∷ cs → Collects n (length older) (h .frames) → Simulates n older whole start a (f (c ∷ cs)))
-      → Simulates n older whole start (cond (eqb (r .calls .call) nowhere) (M.write r x (lent l o)) a) (f (s .calls))
+      → ((c : Call) (cs : List Call) → s .calls ≡ c ∷ cs → Collects n (length older) (h .frames) → Simulates n older heads whole start a (f (c ∷ cs)))
+      → Simulates n older heads whole start (cond (eqb (r .calls .call) nowhere) (M.write r x (lent l o)) a) (f (s .calls))
   byCalls x a f none some = go (calls n (length older) (h .frames)) refl
     where
-      go : (cs : List Call) → calls n (length older) (h .frames) ≡ cs → Simulates n older whole start (cond (eqb (r .calls .call) nowhere) (M.write r x (lent l o)) a) (f (s .calls))
+      go : (cs : List Call) → calls n (length older) (h .frames) ≡ cs → Simulates n older heads whole start (cond (eqb (r .calls .call) nowhere) (M.write r x (lent l o)) a) (f (s .calls))
       go [] e =
           let q : eqb (r .calls .call) nowhere ≡ true = eq-eqb _ _ (ap (λ (p : Places). p .call) (h .placesAre) ∙ noCall n (length older) (h .frames) e) in
-          let p : Simulates n older whole start (M.write r x (lent l o)) (S.put (limitsOf n (length start)) (x ∷ []) s) = rw q at (putByte free h x) in
-          subst (λ (z : List Call). Simulates n older whole start (cond (eqb (r .calls .call) nowhere) (M.write r x (lent l o)) a) (f z)) (sym (h .callsAre ∙ e)) (rw (q, none) p)
+          let p : Simulates n older heads whole start (M.write r x (lent l o)) (S.put (limitsOf n (length start)) (x ∷ []) s) = rw q at (putByte free h x) in
+          subst (λ (z : List Call). Simulates n older heads whole start (cond (eqb (r .calls .call) nowhere) (M.write r x (lent l o)) a) (f z)) (sym (h .callsAre ∙ e)) (rw (q, none) p)
       go (k ∷ cs) e =
           let p : Collects n (length older) (h .frames) = rw e (omega arith) in
-          subst (λ (z : List Call). Simulates n older whole start (cond (eqb (r .calls .call) nowhere) (M.write r x (lent l o)) a) (f z)) (sym (h .callsAre ∙ e))
+          subst (λ (z : List Call). Simulates n older heads whole start (cond (eqb (r .calls .call) nowhere) (M.write r x (lent l o)) a) (f z)) (sym (h .callsAre ∙ e))
           (rw (callIs free h p) (some k cs (h .callsAre ∙ e) p))
 
   -- `,`
-  pub separateSim : (x : ℕ) → Simulates n older whole start (M.separate r x (lent l o)) (S.separate (limitsOf n (length start)) (s .calls) x s)
+  pub separateSim : (x : ℕ) → Simulates n older heads whole start (M.separate r x (lent l o)) (S.separate (limitsOf n (length start)) (s .calls) x s)
   separateSim x =
       byCalls x (M.endByComma r (lent l o)) (λ cs. S.separate (limitsOf n (length start)) cs x s) refl
       λ c cs e p. chargingOne free h λ q.
-      subst (λ (z : List Call). Simulates n older whole start (M.goes (M.separated r) (lent (M.endArgument r l) o)) (next (S.withCalls (separateHead z) (S.noting (S.charge s + 1) s))))
+      subst (λ (z : List Call). Simulates n older heads whole start (M.goes (M.separated r) (lent (M.endArgument r l) o)) (next (S.withCalls (separateHead z) (S.noting (S.charge s + 1) s))))
       e (goes refl (separated p q))
 
   -- `~` in the text
-  pub fetchTextSim : (x : ℕ) → Simulates n older whole start (M.fetchInText r x (lent l o)) (S.fetchInText (limitsOf n (length start)) (s .calls) x s)
+  pub fetchTextSim : (x : ℕ) → Simulates n older heads whole start (M.fetchInText r x (lent l o)) (S.fetchInText (limitsOf n (length start)) (s .calls) x s)
   fetchTextSim x = byCalls x (M.ends Outcomes.parameterInText r (lent l o)) (λ cs. S.fetchInText (limitsOf n (length start)) cs x s) refl λ c cs e p. refusal free h Outcomes.parameterInText
 
   -- By whether a body is being read.
-  pub byBodies : (a c : After) (f : List Body → Step) → (s .bodies ≡ [] → Simulates n older whole start a (f []))
-      → ((B : Body) (Bs : List Body) → s .bodies ≡ B ∷ Bs → Simulates n older whole start c (f (B ∷ Bs)))
-      → Simulates n older whole start (cond (eqb (r .source .list) nowhere) a c) (f (s .bodies))
-  byBodies a c f none some = go (bodies n (length older) (h .frames)) refl
+  pub byBodiesIn : {A : Type 0} (P : A → Step → Type 0) (a c : A) (f : List Body → Step) → (s .bodies ≡ [] → P a (f []))
+      → ((B : Body) (Bs : List Body) → s .bodies ≡ B ∷ Bs → P c (f (B ∷ Bs)))
+      → P (cond (eqb (r .source .list) nowhere) a c) (f (s .bodies))
+  byBodiesIn P a c f none some = go (bodies n (length older) (h .frames)) refl
     where
       fs : List Frame
       fs = h .frames
@@ -344,42 +346,47 @@ module _ {n : ℕ} {older : List Definition} {whole start : List ℕ} {r : Run} 
       listIs : r .source .list ≡ places n (length older) fs .list
       listIs = ap (λ (p : Places). p .list) (h .placesAre)
 
-      go : (Bs : List Body) → bodies n (length older) (h .frames) ≡ Bs → Simulates n older whole start (cond (eqb (r .source .list) nowhere) a c) (f (s .bodies))
+      go : (Bs : List Body) → bodies n (length older) (h .frames) ≡ Bs → P (cond (eqb (r .source .list) nowhere) a c) (f (s .bodies))
       go [] e =
           let q : eqb (r .source .list) nowhere ≡ true = eq-eqb _ _ (listIs ∙ inText n (length older) fs e) in
-          subst (λ (z : List Body). Simulates n older whole start (cond (eqb (r .source .list) nowhere) a c) (f z)) (sym (h .bodiesAre ∙ e)) (rw q (none (h .bodiesAre ∙ e)))
+          subst (λ (z : List Body). P (cond (eqb (r .source .list) nowhere) a c) (f z)) (sym (h .bodiesAre ∙ e)) (rw q (none (h .bodiesAre ∙ e)))
       go (B ∷ Bs) e =
           let p : Reads n (length older) fs = rw e (omega arith) in
           let k : r .source .list < nowhere = omega (arith, listIs, listInside n (length older) (h .cellsLent) fs p (omega (arith, h .lies .stands .right)), h .cellsLent) in
           let q : eqb (r .source .list) nowhere ≡ false = ne-eqb (r .source .list) nowhere (λ (z : r .source .list ≡ nowhere). absurd (omega arith)) in
-          subst (λ (z : List Body). Simulates n older whole start (cond (eqb (r .source .list) nowhere) a c) (f z)) (sym (h .bodiesAre ∙ e)) (rw q (some B Bs (h .bodiesAre ∙ e)))
+          subst (λ (z : List Body). P (cond (eqb (r .source .list) nowhere) a c) (f z)) (sym (h .bodiesAre ∙ e)) (rw q (some B Bs (h .bodiesAre ∙ e)))
+
+  pub byBodies : (a c : After) (f : List Body → Step) → (s .bodies ≡ [] → Simulates n older heads whole start a (f []))
+      → ((B : Body) (Bs : List Body) → s .bodies ≡ B ∷ Bs → Simulates n older heads whole start c (f (B ∷ Bs)))
+      → Simulates n older heads whole start (cond (eqb (r .source .list) nowhere) a c) (f (s .bodies))
+  byBodies a c f none some = byBodiesIn (Simulates n older heads whole start) a c f none some
 
   -- the same of calls, for answers that differ by that alone
-  pub byCall : (a c : After) (f : List Call → Step) → Simulates n older whole start a (f [])
-      → ((k : Call) (ks : List Call) → Simulates n older whole start c (f (k ∷ ks)))
-      → Simulates n older whole start (cond (eqb (r .calls .call) nowhere) a c) (f (s .calls))
+  pub byCall : (a c : After) (f : List Call → Step) → Simulates n older heads whole start a (f [])
+      → ((k : Call) (ks : List Call) → Simulates n older heads whole start c (f (k ∷ ks)))
+      → Simulates n older heads whole start (cond (eqb (r .calls .call) nowhere) a c) (f (s .calls))
   byCall a c f none some = go (calls n (length older) (h .frames)) refl
     where
-      go : (ks : List Call) → calls n (length older) (h .frames) ≡ ks → Simulates n older whole start (cond (eqb (r .calls .call) nowhere) a c) (f (s .calls))
+      go : (ks : List Call) → calls n (length older) (h .frames) ≡ ks → Simulates n older heads whole start (cond (eqb (r .calls .call) nowhere) a c) (f (s .calls))
       go [] e =
           let q : eqb (r .calls .call) nowhere ≡ true = eq-eqb _ _ (ap (λ (p : Places). p .call) (h .placesAre) ∙ noCall n (length older) (h .frames) e) in
-          subst (λ (z : List Call). Simulates n older whole start (cond (eqb (r .calls .call) nowhere) a c) (f z)) (sym (h .callsAre ∙ e)) (rw q none)
+          subst (λ (z : List Call). Simulates n older heads whole start (cond (eqb (r .calls .call) nowhere) a c) (f z)) (sym (h .callsAre ∙ e)) (rw q none)
       go (k ∷ ks) e =
           let p : Collects n (length older) (h .frames) = rw e (omega arith) in
-          subst (λ (z : List Call). Simulates n older whole start (cond (eqb (r .calls .call) nowhere) a c) (f z)) (sym (h .callsAre ∙ e)) (rw (callIs free h p) (some k ks))
+          subst (λ (z : List Call). Simulates n older heads whole start (cond (eqb (r .calls .call) nowhere) a c) (f z)) (sym (h .callsAre ∙ e)) (rw (callIs free h p) (some k ks))
 
   -- an unquoted `>`
-  pub unquoteSim : (x : ℕ) → Simulates n older whole start (M.unquote r x (lent l o)) (S.unquote (limitsOf n (length start)) (s .bodies) (s .calls) x s)
+  pub unquoteSim : (x : ℕ) → Simulates n older heads whole start (M.unquote r x (lent l o)) (S.unquote (limitsOf n (length start)) (s .bodies) (s .calls) x s)
   unquoteSim x =
       byBodies (cond (eqb (r .calls .call) nowhere) (M.ends Outcomes.finishedAtQuote r (lent l o)) (M.ends Outcomes.quoteInCall r (lent l o))) (M.put r x (lent l o)) (λ Bs. S.unquote (limitsOf n (length start)) Bs (s .calls) x s)
       (λ e. byCall (M.ends Outcomes.finishedAtQuote r (lent l o)) (M.ends Outcomes.quoteInCall r (lent l o)) (λ ks. S.unquote (limitsOf n (length start)) [] ks x s) (refusal free h Outcomes.finishedAtQuote) (λ k ks. refusal free h Outcomes.quoteInCall))
       (λ B Bs e. putByte free h x)
 
   -- the end of the text
-  pub endTextSim : Simulates n older whole start (M.endText r (lent l o)) (S.textEnd (limitsOf n (length start)) (s .quotes) (s .calls) s)
+  pub endTextSim : Simulates n older heads whole start (M.endText r (lent l o)) (S.textEnd (limitsOf n (length start)) (s .quotes) (s .calls) s)
   endTextSim = go (s .quotes) refl
     where
-      go : (q : ℕ) → s .quotes ≡ q → Simulates n older whole start (M.endText r (lent l o)) (S.textEnd (limitsOf n (length start)) q (s .calls) s)
+      go : (q : ℕ) → s .quotes ≡ q → Simulates n older heads whole start (M.endText r (lent l o)) (S.textEnd (limitsOf n (length start)) q (s .calls) s)
       go zero e =
           let t : ltb 0 (r .quotes) ≡ false = le-ltb 0 (r .quotes) (omega (arith, h .quotes)) in
           rw t (byCall (M.ends Outcomes.finished r (lent l o)) (M.ends Outcomes.textInCall r (lent l o)) (λ ks. S.textEnd (limitsOf n (length start)) zero ks s) (refusal free h Outcomes.finished) (λ k ks. refusal free h Outcomes.textInCall))

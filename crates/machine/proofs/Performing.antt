@@ -24,7 +24,7 @@ use Rattle.language.specs.BuiltIns.{builtIns, Deed, reads, defines, gives, alte
 use Rattle.language.specs.BuiltIns as B
 use Rattle.language.specs.Charge.{argumentsPrice}
 use Rattle.language.specs.Matched.{All, empty, with}
-use Rattle.language.specs.Scanning.{State, next, Call, Body}
+use Rattle.language.specs.Scanning.{State, Step, next, Call, Body}
 use Rattle.language.specs.Scanning as S
 use Rattle.language.specs.Expansion.{limitsOf, lent}
 use Rattle.language.specs.Octets.{Octets, CallOctets, ContentOctets, HoldsOctets, DefinitionOctets}
@@ -37,17 +37,18 @@ use Rattle.machine.specs.Walks.{nowhere, headSize, nameLength, valueLeng
 use Rattle.machine.specs.Machine as M
 use Rattle.machine.proofs.Items.{encode-append, width-append}
 use Rattle.machine.proofs.Moves.{madeAll, madeLaid, madeBodies, madeValid}
-use Rattle.machine.proofs.Represents.{Simulates, goes, outputSize}
+use Rattle.machine.proofs.Represents.{Simulates, SimulatesIndexed, goes, outputSize}
 use Rattle.machine.proofs.Finds.{HoldsItems, Defines, DefinitionAt, definition-at, ArgumentAt, argument-at, argument-past, Newest, absent, present, newest-finds, isRead-finds}
 use Rattle.machine.proofs.Fetching.{block-low, each}
-use Rattle.machine.proofs.Altering.{alter, alterItems, alter-append, alter-width, alter-count, alterLaid, alterLefts, alterCalls, alterBodies, KeepsRead, alterValid, Spot, spotOf, stored, Fits, alterDefinitions, Alters, updateAlters, lockAlters, alterSize, alterHigh, alterLow}
+use Rattle.machine.proofs.Altering.{alter, alterItems, alter-definitions, alter-index, alter-append, alter-width, alter-count, alterLaid, alterLefts, alterCalls, alterBodies, KeepsRead, alterValid, Spot, spotOf, stored, Fits, alterDefinitions, Alters, updateAlters, lockAlters, alterSize, alterHigh, alterLow}
 use Rattle.machine.proofs.Naming.{TextAt, argument-text, namedOf, Own, unknown, known, builtIns-only, builtInNamed-is, calculate-is, answer-refused}
 use Rattle.machine.proofs.Words.{compare-is, Picked, nothing, picked, chosen-at}
 use Rattle.machine.proofs.Applying.{Applied, listOf}
-use Rattle.machine.proofs.Calling.{argumentsAt, linksIs, rightTo, toAbove, freed, releaseIs, oldest-items, begun, movedIs}
+use Rattle.machine.proofs.Calling.{goneIndex, argumentsAt, linksIs, rightTo, toAbove, freed, releaseIs, oldest-items, begun, movedIs}
 use Rattle.machine.proofs.Giving.{refused as refusing, giveSim}
 use Rattle.machine.proofs.Defining.{defSim}
 use Rattle.machine.specs.Items.{Item, defined, macroOf, width, encode, definitionsOf, count}
+use Rattle.machine.specs.Index.{Index}
 use Rattle.machine.specs.Frames.{Places, Frame, address, At, items, places, calls, bodies, Valid}
 
 -- a value that is found is of bytes
@@ -60,7 +61,15 @@ valueOctets t (d ∷ ds) k m (with x h) e = go (D.same t (d .name)) e (λ q. val
     go true e ih = let q : d .content ≡ macro m = cc in subst ContentOctets q (x .content)
     go false e ih = ih e
 
-module _ {n : ℕ} {whole start : List ℕ} {r : Run} {l o : List ℕ} {s : State} (a : Applied n builtIns whole start r (lent l o) s) (oct : HoldsOctets s) where
+module _ {n : ℕ} {heads whole start : List ℕ} {r : Run} {l o : List ℕ} {s : State} (a : Applied n builtIns heads whole start r (lent l o) s) (oct : HoldsOctets s) where
+  -- what is left is what the scanning says, with the index
+  abbrev Sim : M.Indexed → Step → Type 0
+  Sim x t = SimulatesIndexed n builtIns whole start x t
+
+  -- once what was defined since the `$` is taken out of it
+  abbrev Ended : M.After → Step → Type 0
+  Ended x t = Sim (M.unindexed r heads x) t
+
   abbrev b : ℕ
   b = length builtIns
 
@@ -146,9 +155,9 @@ module _ {n : ℕ} {whole start : List ℕ} {r : Run} {l o : List ℕ} {s : Stat
 
   -- A name looked up -------------------------------------------------------------------------------------------------
 
-  found′ : (q : ℕ) (t : Bytes) → TextAt l q t → Newest n b l (r .right) its t (newest l (r .right) (r .source .list) q)
+  found′ : (q : ℕ) (t : Bytes) → TextAt l q t → Newest n b l (r .right) its t (newest l heads q)
   found′ q t x =
-      rw (gsLaid .0) at (newest-finds gs gsValid holds q t listGs (x .counted) (x .bytes) (omega (arith, x .within, a .lies .stands .size)))
+      rw (gsLaid .0) at (newest-finds gs gsValid holds {heads = heads} q t (rw (gsLaid .0) (a .lies .indexed)) (x .counted) (x .bytes) (omega (arith, x .within, a .lies .stands .size)))
 
   definitionsAre : s .standing .definitions ≡ definitionsOf its ++ builtIns
   definitionsAre = a .lies .stands .definitions
@@ -156,7 +165,7 @@ module _ {n : ℕ} {whole start : List ℕ} {r : Run} {l o : List ℕ} {s : Stat
   -- A body is read ---------------------------------------------------------------------------------------------------
 
   readSim : (d k : ℕ) (m : D.Macro) → Defines n b l (r .right) its d k (parameter 0 list) m
-      → Simulates n builtIns whole start (M.readBody r d (lent l o)) (S.perform (limitsOf n (length start)) (reads k (m .value)) c cs s)
+      → Simulates n builtIns heads whole start (M.readBody r d (lent l o)) (S.perform (limitsOf n (length start)) (reads k (m .value)) c cs s)
   readSim d k m D = let v = m .value in rw (linksIs a, movedIs a d k v (D .at)) (goes refl (begun a d k v (D .at) named))
 
   -- Results ----------------------------------------------------------------------------------------------------------
@@ -164,7 +173,7 @@ module _ {n : ℕ} {whole start : List ℕ} {r : Run} {l o : List ℕ} {s : Stat
   -- bytes that stand in a source are given: from one to the call around, from the other to the output
   sourceSim : (v : Bytes) (from : ℕ) (inner outer : List ℕ) → from + length v ≤ length inner → block from (length v) inner ≡ v
       → from + length v ≤ length outer → block from (length v) outer ≡ v
-      → Simulates n builtIns whole start
+      → Ended
       (M.placing (M.give r (length v) (lent l o))
       (cond (M.isOuter r l) (lent l (copied from (r .counts .written) (length v) outer o)) (lent (copied from (r .calls .call) (length v) inner l) o)))
       (S.perform (limitsOf n (length start)) (gives v) c cs s)
@@ -175,13 +184,13 @@ module _ {n : ℕ} {whole start : List ℕ} {r : Run} {l o : List ℕ} {s : Stat
 
   -- a block of cells gives the bytes that stand in it, also where these lie in the list that goes
   blockSim : (from : ℕ) (v : Bytes) → from + length v ≤ n → block from (length v) l ≡ v → Octets v
-      → Simulates n builtIns whole start (M.giveBlock r from (length v) (lent l o)) (S.perform (limitsOf n (length start)) (gives v) c cs s)
+      → Ended (M.giveBlock r from (length v) (lent l o)) (S.perform (limitsOf n (length start)) (gives v) c cs s)
   blockSim from v fit is vo =
       sourceSim v from l (lowBytes l) (omega (arith, a .lies .stands .size)) is (omega (arith, a .lies .stands .size, length-lowBytes l)) (block-low from v l is vo)
 
   -- a decimal gives the text that it holds
   decimalSim : (bs : Bytes) → length bs ≤ 11
-      → Simulates n builtIns whole start (M.giveDecimal r (decimalOf bs) (lent l o)) (S.perform (limitsOf n (length start)) (gives bs) c cs s)
+      → Ended (M.giveDecimal r (decimalOf bs) (lent l o)) (S.perform (limitsOf n (length start)) (gives bs) c cs s)
   decimalSim bs short =
       let size = filled-length 11 bs in
       let is = filled-text 11 bs short in
@@ -191,16 +200,16 @@ module _ {n : ℕ} {whole start : List ℕ} {r : Run} {l o : List ℕ} {s : Stat
 
   -- "33 .. for an empty name at DEF", or the definition
   definitionSim : (long : 2 < length list)
-      → Simulates n builtIns whole start (M.def r (argument l name 1) (argument l name 2) (lent l o))
+      → Sim (M.def r (argument l name 1) (argument l name 2) heads (lent l o))
       (S.perform (limitsOf n (length start)) (definitionBy (parameter 1 list) (parameter 2 list)) c cs s)
   definitionSim long = go (parameter 1 list) refl
     where
       go : (t : Bytes) → parameter 1 list ≡ t
-          → Simulates n builtIns whole start (M.def r (argument l name 1) (argument l name 2) (lent l o))
+          → Sim (M.def r (argument l name 1) (argument l name 2) heads (lent l o))
           (S.perform (limitsOf n (length start)) (definitionBy t (parameter 2 list)) c cs s)
       go [] e = rw (textIs 1 (omega arith) .counted ∙ ap length e) (refusing builtIns-free a Outcomes.emptyName)
       go (x ∷ t) e =
-          subst (λ (u : Bytes). Simulates n builtIns whole start (M.def r (argument l name 1) (argument l name 2) (lent l o)) (S.perform (limitsOf n (length start)) (defines u (parameter 2 list)) c cs s))
+          subst (λ (u : Bytes). Sim (M.def r (argument l name 1) (argument l name 2) heads (lent l o)) (S.perform (limitsOf n (length start)) (defines u (parameter 2 list)) c cs s))
           e (defSim a long (omega (arith, ap length e)))
 
   -- VAL --------------------------------------------------------------------------------------------------------------
@@ -208,7 +217,7 @@ module _ {n : ℕ} {whole start : List ℕ} {r : Run} {l o : List ℕ} {s : Stat
   -- "15, 19": a name that no definition has
   refuseSim : (q : ℕ) (t : Bytes) → TextAt l q t → (F : Found) → Own F → D.newest t builtIns ≡ F
       → (f : Found → Deed) → f missing ≡ faulty Outcomes.notDefined → ((k : ℕ) (bi : BuiltIn) → f (found k (builtIn bi)) ≡ faulty Outcomes.builtIn)
-      → Simulates n builtIns whole start (M.refuseName r q (lent l o)) (S.perform (limitsOf n (length start)) (f F) c cs s)
+      → Ended (M.refuseName r q (lent l o)) (S.perform (limitsOf n (length start)) (f F) c cs s)
   refuseSim q t x F unknown e f m k = rw (builtInNamed-is x ∙ ap namedOf e, m) (refusing builtIns-free a Outcomes.notDefined)
   refuseSim q t x F (known j bi) e f m k = rw (builtInNamed-is x ∙ ap namedOf e, k j bi) (refusing builtIns-free a Outcomes.builtIn)
 
@@ -216,12 +225,12 @@ module _ {n : ℕ} {whole start : List ℕ} {r : Run} {l o : List ℕ} {s : Stat
   givenSim : (long : 1 < length list) (f : Found → Deed) → f missing ≡ faulty Outcomes.notDefined
       → ((k : ℕ) (bi : BuiltIn) → f (found k (builtIn bi)) ≡ faulty Outcomes.builtIn) → (done : ℕ → M.After)
       → ((d k : ℕ) (m : D.Macro) → Defines n b l (r .right) its d k (parameter 1 list) m → D.newest (parameter 1 list) (s .standing .definitions) ≡ found k (macro m)
-      → Simulates n builtIns whole start (done d) (S.perform (limitsOf n (length start)) (f (found k (macro m))) c cs s))
-      → Simulates n builtIns whole start
-      (cond (eqb (newest l (r .right) (r .source .list) (argument l name 1)) nowhere) (M.refuseName r (argument l name 1) (lent l o))
-      (done (newest l (r .right) (r .source .list) (argument l name 1))))
+      → Ended (done d) (S.perform (limitsOf n (length start)) (f (found k (macro m))) c cs s))
+      → Ended
+      (cond (eqb (newest l heads (argument l name 1)) nowhere) (M.refuseName r (argument l name 1) (lent l o))
+      (done (newest l heads (argument l name 1))))
       (S.perform (limitsOf n (length start)) (f (D.newest (parameter 1 list) (s .standing .definitions))) c cs s)
-  givenSim long f unfound builtin done does = go (newest l (r .right) (r .source .list) q) (found′ q t x)
+  givenSim long f unfound builtin done does = go (newest l heads q) (found′ q t x)
     where
       q : ℕ
       q = argument l name 1
@@ -233,7 +242,7 @@ module _ {n : ℕ} {whole start : List ℕ} {r : Run} {l o : List ℕ} {s : Stat
       x = textIs 1 long
 
       go : (d : ℕ) → Newest n b l (r .right) its t d
-          → Simulates n builtIns whole start (cond (eqb d nowhere) (M.refuseName r q (lent l o)) (done d)) (S.perform (limitsOf n (length start)) (f (D.newest t (s .standing .definitions))) c cs s)
+          → Ended (cond (eqb d nowhere) (M.refuseName r q (lent l o)) (done d)) (S.perform (limitsOf n (length start)) (f (D.newest t (s .standing .definitions))) c cs s)
       go d (absent e h) =
           let g : D.newest t (s .standing .definitions) ≡ D.newest t builtIns = ap (D.newest t) definitionsAre ∙ h builtIns in
           rw (e, g) (refuseSim q t x (D.newest t builtIns) (builtIns-only t) refl f unfound builtin)
@@ -242,7 +251,7 @@ module _ {n : ℕ} {whole start : List ℕ} {r : Run} {l o : List ℕ} {s : Stat
           rw (ne-eqb d nowhere (λ (e : d ≡ nowhere). absurd (omega (arith, at .below))), g) (does d k m at g)
 
   valSim : (long : 1 < length list)
-      → Simulates n builtIns whole start (M.val r (argument l name 1) (lent l o))
+      → Ended (M.val r (argument l name 1) heads (lent l o))
       (S.perform (limitsOf n (length start)) (valueOf (D.newest (parameter 1 list) (s .standing .definitions))) c cs s)
   valSim long =
       givenSim long valueOf refl (λ k bi. refl) (λ d. M.giveBlock r (d + headSize + nameLength l d) (valueLength l d) (lent l o)) λ d k m at g.
@@ -274,7 +283,7 @@ module _ {n : ℕ} {whole start : List ℕ} {r : Run} {l o : List ℕ} {s : Stat
   -- a definition is changed where it stands, and the list goes
   alterSim : (d k : ℕ) (v : Bytes) (spot : Spot n b its d k v) (h : Change) → Fits h (length v + length (spot .spare))
       → KeepsRead n b k h (S.reading (s .bodies)) → (l′ : List ℕ) → Alters k h b its (r .right) l l′
-      → Simulates n builtIns whole start
+      → Ended
       (record { run = (M.release r 0 (lent l o)) .run; answer = (M.release r 0 (lent l o)) .answer; lent = lent l′ o })
       (next (S.withCalls cs (S.withDefinitions (oldest (b + count U) (altered k h (s .standing .definitions))) s)))
   alterSim d k v spot h fit kept l′ cellsEq =
@@ -309,12 +318,14 @@ module _ {n : ℕ} {whole start : List ℕ} {r : Run} {l o : List ℕ} {s : Stat
       (ap width (al .0) ∙ alter-width k h b U)
       (hi ∙ ap encode (sym (al .0)))
       (ds ∙ ap (λ (j : List Item). definitionsOf j ++ builtIns) (sym (al .0)))
-      (ap count (al .0) ∙ alter-count k h b U)))
+      (ap count (al .0) ∙ alter-count k h b U)
+      (rw (al .0) (goneIndex a A K l′ (alter-definitions k h (b + count U) (a .since) (a .definitions)) widthA (alterSize holdsIts cellsEq) high′
+      (subst (λ (j : List Item). Index n j heads) splitEq (alter-index k h n b its heads (a .lies .indexed)))))))
 
   -- the value where the definition stands
   storeSim : (d k : ℕ) (m : D.Macro) (t w : Bytes) (y : ℕ) → Defines n b l (r .right) its d k t m → TextAt l y w → length w ≤ m .room
       → among k (S.reading (s .bodies)) ≡ false
-      → Simulates n builtIns whole start
+      → Ended
       (record {
         run = (M.release r 0 (lent l o)) .run;
         answer = (M.release r 0 (lent l o)) .answer;
@@ -338,14 +349,14 @@ module _ {n : ℕ} {whole start : List ℕ} {r : Run} {l o : List ℕ} {s : Stat
 
   -- the lock is set where it stands, its body being read or not
   lockInSim : (d k : ℕ) (m : D.Macro) (t : Bytes) → Defines n b l (r .right) its d k t m
-      → Simulates n builtIns whole start (M.lockIn r d (lent l o)) (S.perform (limitsOf n (length start)) (alters k locks) c cs s)
+      → Ended (M.lockIn r d (lent l o)) (S.perform (limitsOf n (length start)) (alters k locks) c cs s)
   lockInSim d k m t at =
       let spot = spotOf (at .at) in
       alterSim d k (m .value) spot locks tt (λ e value spare. refl) (withLock l d) (lockAlters spot holdsIts)
 
   -- the definition that UPDATE found: 36, 20, 21, or its value
   foundSim : (long : 2 < length list) (d k : ℕ) (m : D.Macro) → Defines n b l (r .right) its d k (parameter 1 list) m
-      → Simulates n builtIns whole start (M.updateAt r (argument l name 2) d (lent l o))
+      → Ended (M.updateAt r (argument l name 2) d (lent l o))
       (S.perform (limitsOf n (length start)) (updateOf (S.reading (s .bodies)) (parameter 2 list) (found k (macro m))) c cs s)
   foundSim long d k m at = rw (at .cells .locking, readEq) (unlocked (m .locked))
     where
@@ -367,19 +378,19 @@ module _ {n : ℕ} {whole start : List ℕ} {r : Run} {l o : List ℕ} {s : Stat
       test = ap (λ (j : ℕ). ltb j (getD l (argument l name 2) 0)) (at .cells .roomy) ∙ ap (ltb (m .room)) (y .counted)
 
       fits : (z : Bool) → ltb (m .room) (length w) ≡ z → among k busy ≡ false
-          → Simulates n builtIns whole start (M.updateIn r (argument l name 2) d (lent l o))
+          → Ended (M.updateIn r (argument l name 2) d (lent l o))
           (S.perform (limitsOf n (length start)) (cond z (faulty Outcomes.updateTooLong) (alters k (updates w))) c cs s)
       fits true e h = rw (test ∙ e) (refusing builtIns-free a Outcomes.updateTooLong)
       fits false e h = rw (test ∙ e) (storeSim d k m (parameter 1 list) w (argument l name 2) at y (ltb-false (m .room) (length w) e) h)
 
       quiet : (z : Bool) → among k busy ≡ z
-          → Simulates n builtIns whole start (cond z (M.ends Outcomes.bodyBeingRead r (lent l o)) (M.updateIn r (argument l name 2) d (lent l o)))
+          → Ended (cond z (M.ends Outcomes.bodyBeingRead r (lent l o)) (M.updateIn r (argument l name 2) d (lent l o)))
           (S.perform (limitsOf n (length start)) (cond z (faulty Outcomes.bodyBeingRead) (cond (ltb (m .room) (length w)) (faulty Outcomes.updateTooLong) (alters k (updates w)))) c cs s)
       quiet true e = refusing builtIns-free a Outcomes.bodyBeingRead
       quiet false e = fits (ltb (m .room) (length w)) refl e
 
       unlocked : (z : Bool)
-          → Simulates n builtIns whole start
+          → Ended
           (cond z (M.ends Outcomes.locked r (lent l o)) (cond (among k busy) (M.ends Outcomes.bodyBeingRead r (lent l o)) (M.updateIn r (argument l name 2) d (lent l o))))
           (S.perform (limitsOf n (length start))
           (cond z (faulty Outcomes.locked)
@@ -388,14 +399,14 @@ module _ {n : ℕ} {whole start : List ℕ} {r : Run} {l o : List ℕ} {s : Stat
       unlocked false = quiet (among k busy) refl
 
   updateSim : (long : 2 < length list)
-      → Simulates n builtIns whole start (M.update r (argument l name 1) (argument l name 2) (lent l o))
+      → Ended (M.update r (argument l name 1) (argument l name 2) heads (lent l o))
       (S.perform (limitsOf n (length start)) (updateOf (S.reading (s .bodies)) (parameter 2 list) (D.newest (parameter 1 list) (s .standing .definitions))) c cs s)
   updateSim long =
       givenSim (omega arith) (updateOf (S.reading (s .bodies)) (parameter 2 list)) refl (λ k bi. refl) (λ d. M.updateAt r (argument l name 2) d (lent l o))
       λ d k m at g. foundSim long d k m at
 
   lockSim : (long : 1 < length list)
-      → Simulates n builtIns whole start (M.lock r (argument l name 1) (lent l o))
+      → Ended (M.lock r (argument l name 1) heads (lent l o))
       (S.perform (limitsOf n (length start)) (lockOf (D.newest (parameter 1 list) (s .standing .definitions))) c cs s)
   lockSim long =
       givenSim long lockOf refl (λ k bi. refl) (λ d. M.lockIn r d (lent l o)) λ d k m at g. lockInSim d k m (parameter 1 list) at
@@ -403,7 +414,7 @@ module _ {n : ℕ} {whole start : List ℕ} {r : Run} {l o : List ℕ} {s : Stat
   -- Arithmetic -------------------------------------------------------------------------------------------------------
 
   arithmeticSim : (op : Operation) (long : 2 < length list)
-      → Simulates n builtIns whole start
+      → Ended
       (M.giveAnswer r (calculate op l (argument l name 1) (argument l name 2)) (lent l o))
       (S.perform (limitsOf n (length start)) (resultOf (calculated op (parameter 1 list) (parameter 2 list))) c cs s)
   arithmeticSim op long =
@@ -411,7 +422,7 @@ module _ {n : ℕ} {whole start : List ℕ} {r : Run} {l o : List ℕ} {s : Stat
       (go (calculated op (parameter 1 list) (parameter 2 list)) refl)
     where
       go : (R : Result) → calculated op (parameter 1 list) (parameter 2 list) ≡ R
-          → Simulates n builtIns whole start (M.giveAnswer r (answerOf R) (lent l o)) (S.perform (limitsOf n (length start)) (resultOf R) c cs s)
+          → Ended (M.giveAnswer r (answerOf R) (lent l o)) (S.perform (limitsOf n (length start)) (resultOf R) c cs s)
       go (refused k) e = rw (answer-refused op (parameter 1 list) (parameter 2 list) e) (refusing builtIns-free a k)
       go (number z) e =
           decimalSim (shortest z) (at-most-eleven z (result-in-range op (parameter 1 list) (parameter 2 list) z e))
@@ -419,18 +430,18 @@ module _ {n : ℕ} {whole start : List ℕ} {r : Run} {l o : List ℕ} {s : Stat
   -- SEQ, SIZE and IF -------------------------------------------------------------------------------------------------
 
   seqSim : (long : 2 < length list)
-      → Simulates n builtIns whole start
+      → Ended
       (M.giveCount r (compare l (argument l name 1) (argument l name 2)) (lent l o))
       (S.perform (limitsOf n (length start)) (gives (compared (parameter 1 list) (parameter 2 list))) c cs s)
   unfolding digitsOf
   seqSim long = rw (compare-is (textIs 1 (omega arith)) (textIs 2 long)) (go (D.same (parameter 1 list) (parameter 2 list)))
     where
-      go : (z : Bool) → Simulates n builtIns whole start (M.giveCount r (cond z 1 0) (lent l o)) (S.perform (limitsOf n (length start)) (gives (cond z (ascii "1") (ascii "0"))) c cs s)
+      go : (z : Bool) → Ended (M.giveCount r (cond z 1 0) (lent l o)) (S.perform (limitsOf n (length start)) (gives (cond z (ascii "1") (ascii "0"))) c cs s)
       go true = decimalSim (ascii "1") (omega arith)
       go false = decimalSim (ascii "0") (omega arith)
 
   sizeSim : (long : 1 < length list)
-      → Simulates n builtIns whole start
+      → Ended
       (M.giveCount r (getD l (argument l name 1) 0) (lent l o))
       (S.perform (limitsOf n (length start)) (gives (digits (length (parameter 1 list)))) c cs s)
   sizeSim long =
@@ -438,7 +449,7 @@ module _ {n : ℕ} {whole start : List ℕ} {r : Run} {l o : List ℕ} {s : Stat
       let small : length (parameter 1 list) ≤ 65536 = omega (arith, x .within, a .lies .stands .size, a .cellsLent) in
       rw (x .counted) (decimalSim (digits (length (parameter 1 list))) (omega (arith, digits-room (length (parameter 1 list)) (omega arith))))
 
-  ifSim : Simulates n builtIns whole start (M.choose r name (lent l o)) (S.perform (limitsOf n (length start)) (gives (B.chosen (drop 1 list))) c cs s)
+  ifSim : Ended (M.choose r name (lent l o)) (S.perform (limitsOf n (length start)) (gives (B.chosen (drop 1 list))) c cs s)
   ifSim = go (B.chosen (drop 1 list)) (chosen l name)
       (chosen-at (length l) l name list (drop (r .calls .left + 1) l) (argumentsAt a)
       (omega (arith, a .leftIs, a .room, a .lies .stands .right, a .lies .stands .size))
@@ -447,7 +458,7 @@ module _ {n : ℕ} {whole start : List ℕ} {r : Run} {l o : List ℕ} {s : Stat
       (all-chosen empty (all-drop 1 listOctets))
     where
       go : (v : Bytes) (q : ℕ) → Picked l v q → Octets v
-          → Simulates n builtIns whole start (M.chooseAt r name q (lent l o)) (S.perform (limitsOf n (length start)) (gives v) c cs s)
+          → Ended (M.chooseAt r name q (lent l o)) (S.perform (limitsOf n (length start)) (gives v) c cs s)
       go v q (nothing e) os = rw e (blockSim name [] (omega (arith, a .leftIs, a .room, a .lies .stands .right)) refl empty)
       go v q (picked below x) os =
           rw (ne-eqb q nowhere (λ (e : q ≡ nowhere). absurd (omega arith)), x .counted)
@@ -456,7 +467,7 @@ module _ {n : ℕ} {whole start : List ℕ} {r : Run} {l o : List ℕ} {s : Stat
   -- A built-in -------------------------------------------------------------------------------------------------------
 
   performSim : (bi : BuiltIn) → needs bi < length list
-      → Simulates n builtIns whole start (M.perform r bi name (lent l o))
+      → Sim (M.perform r bi name heads (lent l o))
       (S.perform (limitsOf n (length start)) (performed (S.reading (s .bodies)) list (s .standing .definitions) bi) c cs s)
   performSim Def long = definitionSim long
   performSim Val long = valSim long
@@ -469,12 +480,12 @@ module _ {n : ℕ} {whole start : List ℕ} {r : Run} {l o : List ℕ} {s : Stat
 
   -- what it needs, or 13
   suppliedSim : (bi : BuiltIn)
-      → Simulates n builtIns whole start (M.supplied r bi name (lent l o))
+      → Sim (M.supplied r bi name heads (lent l o))
       (S.perform (limitsOf n (length start)) (cond (ltb (needs bi) (length list)) (performed (S.reading (s .bodies)) list (s .standing .definitions) bi) (faulty Outcomes.notSupplied)) c cs s)
   suppliedSim bi = go (ltb (needs bi) (length list)) refl
     where
       go : (z : Bool) → ltb (needs bi) (length list) ≡ z
-          → Simulates n builtIns whole start (M.supplied r bi name (lent l o))
+          → Sim (M.supplied r bi name heads (lent l o))
           (S.perform (limitsOf n (length start)) (cond z (performed (S.reading (s .bodies)) list (s .standing .definitions) bi) (faulty Outcomes.notSupplied)) c cs s)
       go true q = let long = ltb-true (needs bi) (length list) q in rw (there (needs bi) long) (performSim bi long)
       go false q = rw (argumentNot (needs bi) (ltb-false (needs bi) (length list) q)) (refusing builtIns-free a Outcomes.notSupplied)
@@ -482,19 +493,19 @@ module _ {n : ℕ} {whole start : List ℕ} {r : Run} {l o : List ℕ} {s : Stat
   -- The applied call -------------------------------------------------------------------------------------------------
 
   ownSim : (F : Found) → Own F → D.newest (parameter 0 list) builtIns ≡ F
-      → Simulates n builtIns whole start (M.applyBuiltIn r name (lent l o)) (S.perform (limitsOf n (length start)) (deedOf (S.reading (s .bodies)) list (s .standing .definitions) F) c cs s)
+      → Sim (M.applyBuiltIn r name heads (lent l o)) (S.perform (limitsOf n (length start)) (deedOf (S.reading (s .bodies)) list (s .standing .definitions) F) c cs s)
   ownSim F unknown e = rw (builtInNamed-is nameText ∙ ap namedOf e) (refusing builtIns-free a Outcomes.notDefined)
   ownSim F (known j bi) e = rw (builtInNamed-is nameText ∙ ap namedOf e) (suppliedSim bi)
 
-  pub markedSim : Simulates n builtIns whole start (M.applyMarked r (lent l o)) (S.perform (limitsOf n (length start)) (deed (S.reading (s .bodies)) list (s .standing .definitions)) c cs s)
+  pub markedSim : Sim (M.applyMarked r heads (lent l o)) (S.perform (limitsOf n (length start)) (deed (S.reading (s .bodies)) list (s .standing .definitions)) c cs s)
   unfolding deed
-  markedSim = go (newest l (r .right) (r .source .list) name) (found′ name (parameter 0 list) nameText)
+  markedSim = go (newest l heads name) (found′ name (parameter 0 list) nameText)
     where
       t : Bytes
       t = parameter 0 list
 
       go : (d : ℕ) → Newest n b l (r .right) its t d
-          → Simulates n builtIns whole start (M.applyFound r d (lent l o))
+          → Sim (M.applyFound r d heads (lent l o))
           (S.perform (limitsOf n (length start)) (deedOf (S.reading (s .bodies)) list (s .standing .definitions) (D.newest t (s .standing .definitions))) c cs s)
       go d (absent e f) =
           let g : D.newest t (s .standing .definitions) ≡ D.newest t builtIns = ap (D.newest t) definitionsAre ∙ f builtIns in

@@ -14,19 +14,23 @@ use Rattle.language.proofs.Prices.{price-append}
 use Rattle.machine.specs.declared.run.Run.{Run}
 use Rattle.machine.specs.Walks.{packed, listOverhead}
 use Rattle.machine.specs.declared.run.Answer.the-variants.{GoesOn}
-use Rattle.machine.specs.Machine.{After}
+use Rattle.machine.specs.Machine.{After, Indexed}
 use Rattle.machine.proofs.Items.{list-size, definition-size, width-append, width-cons, definitions-append}
 use Rattle.machine.specs.Items.{Item, defined, listed, encode, width, definitionsOf, Definitions}
 use Rattle.machine.specs.Frames.{Places, Frame, made, collects, reads, address, listItem, laid, items, places, calls, bodies, Valid}
 use Rattle.machine.specs.Held.{Lies, EndsAs, Represents}
 
-pub data Simulates (n : ℕ) (older : List Definition) (whole start : List ℕ) (a : After) : Step → Type 0 where
-  goes : {s : State} → a .answer ≡ GoesOn → Represents n older whole start (a .run) (a .lent) s → Simulates n older whole start a (next s)
-  stops : {e : End} → EndsAs older start a e → Simulates n older whole start a (stop e)
+pub data Simulates (n : ℕ) (older : List Definition) (heads whole start : List ℕ) (a : After) : Step → Type 0 where
+  goes : {s : State} → a .answer ≡ GoesOn → Represents n older heads whole start (a .run) (a .lent) s → Simulates n older heads whole start a (next s)
+  stops : {e : End} → EndsAs older start a e → Simulates n older heads whole start a (stop e)
+
+-- the same of what a function leaves with the heads of the index
+abbrev pub SimulatesIndexed : ℕ → List Definition → List ℕ → List ℕ → Indexed → Step → Type 0
+SimulatesIndexed n older whole start x t = Simulates n older (x .heads) whole start (x .after) t
 
 -- the output is as long as it was lent
-pub outputSize : {n : ℕ} {older : List Definition} {start : List ℕ} {its : List Item} {r : Run} {m : Lent} {w : Standing}
-    → Lies n older start its r m w → length (m .output) ≡ length start
+pub outputSize : {n : ℕ} {older : List Definition} {heads start : List ℕ} {its : List Item} {r : Run} {m : Lent} {w : Standing}
+    → Lies n older heads start its r m w → length (m .output) ≡ length start
 outputSize {start = start} {w = w} h =
     ap length (h .wrote .output)
     ∙ omega (arith, length-append (w .output) (drop (length (w .output)) start), length-drop (length (w .output)) start, h .wrote .enough)
@@ -71,8 +75,8 @@ module _ (n base : ℕ) where
       )
 
 -- the charge that is carried is the one that the lists sum to
-pub chargeIs : {n : ℕ} {older : List Definition} {whole start : List ℕ} {r : Run} {m : Lent} {s : State}
-    → definitionsPrice older ≡ 0 → Represents n older whole start r m s → S.charge s ≡ r .charge
+pub chargeIs : {n : ℕ} {older : List Definition} {heads whole start : List ℕ} {r : Run} {m : Lent} {s : State}
+    → definitionsPrice older ≡ 0 → Represents n older heads whole start r m s → S.charge s ≡ r .charge
 chargeIs {n} {older} z h =
     let b = length older in
     let f = h .frames in

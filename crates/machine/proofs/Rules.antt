@@ -123,7 +123,7 @@ module _ (n base : ℕ) where
       record { behind = waits ∷ hand; cells = d ∙ ap (λ (y : List Bytes). encodeArguments y ++ (waits ∷ hand)) same }
   argumentsOf (reads list since d k v o ∷ fs) c cs e = let x = argumentsOf fs c cs e in record { behind = x .behind; cells = x .cells }
 
-module _ {n : ℕ} {whole start : List ℕ} {r : Run} {l o : List ℕ} {s : State} (h : Represents n builtIns whole start r (lent l o) s) where
+module _ {n : ℕ} {heads whole start : List ℕ} {r : Run} {l o : List ℕ} {s : State} (h : Represents n builtIns heads whole start r (lent l o) s) where
   callEq : r .calls .call ≡ places n (length builtIns) (h .frames) .call
   callEq = ap (λ (p : Places). p .call) (h .placesAre)
 

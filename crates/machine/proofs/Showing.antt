@@ -11,7 +11,7 @@ use Rattle.language.specs.Scanning.{State, Standing}
 use Rattle.language.specs.Expansion.{Lent}
 use Rattle.machine.specs.declared.run.Run.{Run}
 use Rattle.machine.specs.Walks.{nowhere}
-use Rattle.machine.specs.Items.{defined, listed, encodeArguments, encode, definitionsOf}
+use Rattle.machine.specs.Items.{Head, defined, listed, encodeArguments, encode, definitionsOf}
 use Rattle.machine.specs.Frames.{Places, Frame, items, places, Valid}
 use Rattle.machine.specs.Held.{definitionsHeldFrom, definitionsHeld, Written, Shows, Lies, Represents}
 use Rattle.machine.proofs.Finds.{held-finds}
@@ -21,10 +21,10 @@ writtenIs : {start o bs : List ℕ} {many : ℕ} → Written start many o bs →
 writtenIs {start} {o} {bs} {many} h = rw (h .output) (take-at bs (drop (length bs) start) many (sym (h .written)))
 
 -- a standing that lies in the items of frames is the one that is shown
-pub showsOf : {n : ℕ} {older : List Definition} {start : List ℕ} {r : Run} {m : Lent} {w : Standing} (fs : List Frame)
+pub showsOf : {n : ℕ} {older : List Definition} {heads start : List ℕ} {r : Run} {m : Lent} {w : Standing} (fs : List Frame)
     → Valid n (length older) fs → n ≤ cellsLimit → r .source .list ≡ places n (length older) fs .list
-    → Lies n older start (items n (length older) fs) r m w → Shows older start r m w
-showsOf {n} {older} {start} {r} {m} {w} fs valid small at h =
+    → Lies n older heads start (items n (length older) fs) r m w → Shows older start r m w
+showsOf {n} {older} {heads} {start} {r} {m} {w} fs valid small at h =
     let s = h .stands in
     let held : definitionsHeld (m .cells) (r .right) (r .source .list) ≡ definitionsOf (items n (length older) fs) =
     held-finds n (length older) fs valid (record { size = s .size; cellsLent = small; ends = s .right; cells = s .cells }) at in
@@ -35,17 +35,21 @@ showsOf {n} {older} {start} {r} {m} {w} fs valid small at h =
     }
 
 -- a run shows the standing of the state that it holds
-pub stateShown : {n : ℕ} {older : List Definition} {whole start : List ℕ} {r : Run} {m : Lent} {s : State}
-    → Represents n older whole start r m s → Shows older start r m (s .standing)
+pub stateShown : {n : ℕ} {older : List Definition} {heads whole start : List ℕ} {r : Run} {m : Lent} {s : State}
+    → Represents n older heads whole start r m s → Shows older start r m (s .standing)
 stateShown h = showsOf (h .frames) (h .valid) (h .cellsLent) (ap (λ (p : Places). p .list) (h .placesAre)) (h .lies)
 
 -- Cells that items encode in two ways: `list` says which they are ----------------------------------------------------
 
 abbrev twofold : List ℕ
-twofold = 0 ∷ 0 ∷ 1 ∷ 0 ∷ 65536 ∷ 0 ∷ 0 ∷ 2 ∷ 0 ∷ 0 ∷ 65536 ∷ []
+twofold = 0 ∷ 0 ∷ 0 ∷ 0 ∷ 65536 ∷ 0 ∷ 0 ∷ 2 ∷ 0 ∷ 65536 ∷ 0 ∷ 0 ∷ []
 
-encoded-twice : (encode (defined 0 [] [] (65536 ∷ []) ∷ defined 0 [] [] (0 ∷ 65536 ∷ []) ∷ []) ≡ twofold)
-    × (encode (listed 0 0 1 ([] ∷ []) ∷ defined 0 [] [] (0 ∷ 65536 ∷ []) ∷ []) ≡ twofold)
+-- unlocked, and the oldest of its group
+abbrev plain : Head
+plain = record { lock = 0; link = 65536 }
+
+encoded-twice : (encode (defined plain [] [] [] ∷ defined plain [] [] (0 ∷ 0 ∷ []) ∷ []) ≡ twofold)
+    × (encode (listed 0 0 0 ([] ∷ []) ∷ defined plain [] [] (0 ∷ 0 ∷ []) ∷ []) ≡ twofold)
 unfolding encode encodeArguments
 encoded-twice = (refl, refl)
 
@@ -53,7 +57,7 @@ encoded-twice = (refl, refl)
 abbrev empty : ℕ → Definition
 empty k = record { name = []; content = macro (record { value = []; room = k; locked = false }) }
 
-pub read-as-definitions : definitionsHeld twofold 0 nowhere ≡ empty 1 ∷ empty 2 ∷ []
+pub read-as-definitions : definitionsHeld twofold 0 nowhere ≡ empty 0 ∷ empty 2 ∷ []
 unfolding definitionsHeldFrom
 read-as-definitions = refl
 
@@ -62,7 +66,7 @@ unfolding definitionsHeldFrom
 read-behind-a-list = refl
 
 -- name, value, defined length and lock, from the cells before them
-pub read-whole : definitionsHeld (7 ∷ 0 ∷ 2 ∷ 3 ∷ 1 ∷ 107 ∷ 109 ∷ 97 ∷ 98 ∷ 99 ∷ 1 ∷ 1 ∷ 0 ∷ 0 ∷ 107 ∷ []) 1 nowhere
+pub read-whole : definitionsHeld (7 ∷ 0 ∷ 2 ∷ 3 ∷ 1 ∷ 65536 ∷ 107 ∷ 109 ∷ 97 ∷ 98 ∷ 99 ∷ 1 ∷ 1 ∷ 0 ∷ 0 ∷ 65536 ∷ 107 ∷ []) 1 nowhere
     ≡ record { name = 107 ∷ 109 ∷ []; content = macro (record { value = 97 ∷ []; room = 3; locked = false }) }
     ∷ record { name = 107 ∷ []; content = macro (record { value = []; room = 0; locked = true }) }
     ∷ []

@@ -23,9 +23,9 @@ use Rattle.machine.specs.declared.run.Run.{Run}
 use Rattle.machine.specs.Walks.{nowhere, mark}
 use Rattle.machine.specs.Machine as M
 use Rattle.machine.specs.Machine.{After}
-use Rattle.machine.proofs.Represents.{Simulates, goes}
-use Rattle.machine.proofs.Putting.{refusal, chargingOne, putByte}
-use Rattle.machine.proofs.Opening.{openSim, separateSim, fetchTextSim, unquoteSim, endTextSim, byBodies}
+use Rattle.machine.proofs.Represents.{Simulates, SimulatesIndexed, goes}
+use Rattle.machine.proofs.Putting.{refusal, chargingOneIn, putByte}
+use Rattle.machine.proofs.Opening.{openSim, separateSim, fetchTextSim, unquoteSim, endTextSim, byBodies, byBodiesIn}
 use Rattle.machine.proofs.Counting.{quoted, counted, taken, advanced}
 use Rattle.machine.proofs.Ending.{ownIs, endBodySim}
 use Rattle.machine.proofs.Fetching.{bodyOver, bodyNext, fetchBodySim}
@@ -51,53 +51,58 @@ restOctets (with x h) = h
 pub innermostOctets : {B : Body} {Bs : List Body} → All BodyOctets (B ∷ Bs) → BodyOctets B
 innermostOctets (with x h) = x
 
-module _ {n : ℕ} {whole start : List ℕ} {r : Run} {l o : List ℕ} {s : State}
-    (h : Represents n builtIns whole start r (lent l o) s) (oct : HoldsOctets s) (T : Table) where
+module _ {n : ℕ} {heads whole start : List ℕ} {r : Run} {l o : List ℕ} {s : State}
+    (h : Represents n builtIns heads whole start r (lent l o) s) (oct : HoldsOctets s) (T : Table) where
   abbrev L : S.Limits
   L = limitsOf n (length start)
 
-  abbrev Sim : After → Step → Type 0
-  Sim a t = Simulates n builtIns whole start a t
+  abbrev Sim : M.Indexed → Step → Type 0
+  Sim x t = SimulatesIndexed n builtIns whole start x t
+
+  -- the index as it was
+  abbrev Kept : After → Step → Type 0
+  Kept a t = Simulates n builtIns heads whole start a t
 
   -- `;`
-  applySim : (x : ℕ) → Sim (M.apply r x (lent l o)) (S.apply L (S.ownCall s) x s)
+  applySim : (x : ℕ) → Sim (M.apply r x heads (lent l o)) (S.apply L (S.ownCall s) x s)
   applySim x = go (S.ownCall s) refl
     where
-      innermost : S.ownCall s ≡ true → (ks : List Call) → s .calls ≡ ks → Sim (M.applyCall r (lent l o)) (S.applyInnermost L ks s)
+      innermost : S.ownCall s ≡ true → (ks : List Call) → s .calls ≡ ks → Sim (M.applyCall r heads (lent l o)) (S.applyInnermost L ks s)
       innermost own [] e =
           let q : S.ownCall s ≡ false = ap (λ (ks : List Call). ltb (S.callsBelow (s .bodies)) (length ks)) e ∙ le-ltb (S.callsBelow (s .bodies)) 0 zero-le in
           let z : _≡_ {A = Bool} true false = sym own ∙ q in
           absurd (let y : _≡_ {A = ℕ} 0 1 = cc in omega arith)
-      innermost own (k ∷ ks) e = chargingOne builtIns-free h λ q.
+      innermost own (k ∷ ks) e = chargingOneIn builtIns-free h Sim (refusal builtIns-free h Outcomes.noCellsLeft) (λ q.
           let a = appliedOf builtIns-free h own q in
           let p : k ∷ ks ≡ record { ended = a .ended; hand = a .hand; stood = length builtIns + count (items n (length builtIns) (a .under)) } ∷ calls n (length builtIns) (a .under) = sym e ∙ a .callsAre in
           let kEq : record { ended = a .ended; hand = a .hand; stood = length builtIns + count (items n (length builtIns) (a .under)) } ≡ k = cc in
           let ksEq : calls n (length builtIns) (a .under) ≡ ks = cc in
           rw (le-ltb (r .calls .left) (r .calls .call + openPrice) (omega (arith, a .leftIs, arguments-last (a .ended) (a .hand))))
-          (subst (λ (j : List Call). Sim (M.applyMarked (M.charged 1 r) (lent (set (M.endArgument r l) (r .calls .left) mark) o)) (S.perform L (deed (S.reading (s .bodies)) (S.listOf k) (s .standing .definitions)) k j (S.noting (S.charge s + 1) s))) ksEq
-          (subst (λ (j : Call). Sim (M.applyMarked (M.charged 1 r) (lent (set (M.endArgument r l) (r .calls .left) mark) o)) (S.perform L (deed (S.reading (s .bodies)) (S.listOf j) (s .standing .definitions)) j (calls n (length builtIns) (a .under)) (S.noting (S.charge s + 1) s))) kEq
-          (markedSim a (noted (S.charge s + 1) oct))))
+          (subst (λ (j : List Call). Sim (M.applyMarked (M.charged 1 r) heads (lent (set (M.endArgument r l) (r .calls .left) mark) o)) (S.perform L (deed (S.reading (s .bodies)) (S.listOf k) (s .standing .definitions)) k j (S.noting (S.charge s + 1) s))) ksEq
+          (subst (λ (j : Call). Sim (M.applyMarked (M.charged 1 r) heads (lent (set (M.endArgument r l) (r .calls .left) mark) o)) (S.perform L (deed (S.reading (s .bodies)) (S.listOf j) (s .standing .definitions)) j (calls n (length builtIns) (a .under)) (S.noting (S.charge s + 1) s))) kEq
+          (markedSim a (noted (S.charge s + 1) oct)))))
 
-      go : (t : Bool) → S.ownCall s ≡ t → Sim (M.apply r x (lent l o)) (S.apply L t x s)
+      go : (t : Bool) → S.ownCall s ≡ t → Sim (M.apply r x heads (lent l o)) (S.apply L t x s)
       go true e = rw (ownIs h ∙ e) (innermost e (s .calls) refl)
       go false e = rw (ownIs h ∙ e)
-          (byBodies builtIns-free h (M.put r x (lent l o)) (M.ends Outcomes.appliesNothing r (lent l o)) (λ Bs. S.applyNone L Bs x s) (λ q. putByte builtIns-free h x) (λ B Bs q. refusal builtIns-free h Outcomes.appliesNothing))
+          (byBodiesIn builtIns-free h Sim (M.keeping heads (M.put r x (lent l o))) (M.keeping heads (M.ends Outcomes.appliesNothing r (lent l o))) (λ Bs. S.applyNone L Bs x s) (λ q. putByte builtIns-free h x) (λ B Bs q. refusal builtIns-free h Outcomes.appliesNothing))
 
   -- `~`
-  fetchSim : (x : ℕ) → Sim (M.fetch r x (lent l o)) (S.fetch L (language T) (s .bodies) x s)
+  fetchSim : (x : ℕ) → Kept (M.fetch r x (lent l o)) (S.fetch L (language T) (s .bodies) x s)
   fetchSim x =
       byBodies builtIns-free h (M.fetchInText r x (lent l o)) (M.fetchInBody r (lent l o)) (λ Bs. S.fetch L (language T) Bs x s) (λ e. fetchTextSim builtIns-free h x)
       (λ B Bs e. let k = innermostOctets (subst (All BodyOctets) e (oct .bodies)) in fetchBodySim builtIns-free h B Bs e T (k .rest) (k .list))
 
   -- a byte outside of quotes
-  signSim : s .quotes ≡ 0 → (k x : ℕ) → Sim (M.scanSign r k x (lent l o)) (S.byte L (language T) (outside (signOfKind k)) x s)
+  signSim : s .quotes ≡ 0 → (k x : ℕ) → Sim (M.scanSign r k x heads (lent l o)) (S.byte L (language T) (outside (signOfKind k)) x s)
   signSim z k x = go (eqb k 1) (eqb k 2) (eqb k 3) (eqb k 4) (eqb k 5) (eqb k 6)
     where
       same : M.withQuotes 0 r ≡ r
       same = ap (λ (q : ℕ). M.withQuotes q r) (sym (h .quotes ∙ z))
 
       go : (a b c d e f : Bool)
-          → Sim (cond a (M.openCall r (lent l o)) (cond b (M.separate r x (lent l o)) (cond c (M.apply r x (lent l o)) (cond d (M.fetch r x (lent l o)) (cond e (M.goes (M.withQuotes 1 r) (lent l o)) (cond f (M.unquote r x (lent l o)) (M.put r x (lent l o))))))))
+          → Sim (cond a (M.keeping heads (M.openCall r (lent l o))) (cond b (M.keeping heads (M.separate r x (lent l o))) (cond c (M.apply r x heads (lent l o)) (cond d (M.keeping heads (M.fetch r x (lent l o)))
+          (cond e (M.keeping heads (M.goes (M.withQuotes 1 r) (lent l o))) (cond f (M.keeping heads (M.unquote r x (lent l o))) (M.keeping heads (M.put r x (lent l o)))))))))
           (S.byte L (language T) (outside (cond a dollar (cond b comma (cond c semicolon (cond d tilde (cond e quote (cond f unquote plain))))))) x s)
       go true b c d e f = openSim builtIns-free h
       go false true c d e f = separateSim builtIns-free h x
@@ -106,23 +111,23 @@ module _ {n : ℕ} {whole start : List ℕ} {r : Run} {l o : List ℕ} {s : Stat
       go false false false false true f = goes refl (quoted h 1)
       go false false false false false true = unquoteSim builtIns-free h x
       go false false false false false false =
-          subst (λ (u : Run). Sim (M.put u x (lent l o)) (S.put L (x ∷ []) (S.withQuotes 0 s))) same (putByte builtIns-free (quoted h 0) x)
+          subst (λ (u : Run). Kept (M.put u x (lent l o)) (S.put L (x ∷ []) (S.withQuotes 0 s))) same (putByte builtIns-free (quoted h 0) x)
 
   -- a byte inside of quotes
-  quotedSim : (q : ℕ) → s .quotes ≡ suc q → (k x : ℕ) → Sim (M.scanQuoted r k x (lent l o)) (S.byte L (language T) (inside q (signOfKind k)) x s)
+  quotedSim : (q : ℕ) → s .quotes ≡ suc q → (k x : ℕ) → Kept (M.scanQuoted r k x (lent l o)) (S.byte L (language T) (inside q (signOfKind k)) x s)
   quotedSim q z k x = rw (h .quotes ∙ z) (opening (eqb k 5) refl)
     where
       Goal : ℕ → Type 0
-      Goal j = Sim (cond (eqb (M.quotesAfter (suc q) j) 0) (M.goes (M.withQuotes 0 r) (lent l o)) (M.put (M.withQuotes (M.quotesAfter (suc q) j) r) x (lent l o))) (S.byte L (language T) (inside q (signOfKind j)) x s)
+      Goal j = Kept (cond (eqb (M.quotesAfter (suc q) j) 0) (M.goes (M.withQuotes 0 r) (lent l o)) (M.put (M.withQuotes (M.quotesAfter (suc q) j) r) x (lent l o))) (S.byte L (language T) (inside q (signOfKind j)) x s)
 
-      copies : (m : ℕ) → Sim (cond (eqb (suc m) 0) (M.goes (M.withQuotes 0 r) (lent l o)) (M.put (M.withQuotes (suc m) r) x (lent l o))) (S.put L (x ∷ []) (S.withQuotes (suc m) s))
+      copies : (m : ℕ) → Kept (cond (eqb (suc m) 0) (M.goes (M.withQuotes 0 r) (lent l o)) (M.put (M.withQuotes (suc m) r) x (lent l o))) (S.put L (x ∷ []) (S.withQuotes (suc m) s))
       copies m = rw (ne-eqb (suc m) 0 (λ e. absurd (omega arith))) (putByte builtIns-free (quoted h (suc m)) x)
 
-      closes : (m : ℕ) → Sim (cond (eqb m 0) (M.goes (M.withQuotes 0 r) (lent l o)) (M.put (M.withQuotes m r) x (lent l o))) (S.byte L (language T) (closesTo m) x s)
+      closes : (m : ℕ) → Kept (cond (eqb m 0) (M.goes (M.withQuotes 0 r) (lent l o)) (M.put (M.withQuotes m r) x (lent l o))) (S.byte L (language T) (closesTo m) x s)
       closes zero = goes refl (quoted h 0)
       closes (suc m) = copies m
 
-      other : (a b c d : Bool) → Sim (cond (eqb (suc q) 0) (M.goes (M.withQuotes 0 r) (lent l o)) (M.put (M.withQuotes (suc q) r) x (lent l o)))
+      other : (a b c d : Bool) → Kept (cond (eqb (suc q) 0) (M.goes (M.withQuotes 0 r) (lent l o)) (M.put (M.withQuotes (suc q) r) x (lent l o)))
           (S.byte L (language T) (inside q (cond a dollar (cond b comma (cond c semicolon (cond d tilde plain))))) x s)
       other true b c d = copies q
       other false true c d = copies q
@@ -139,21 +144,21 @@ module _ {n : ℕ} {whole start : List ℕ} {r : Run} {l o : List ℕ} {s : Stat
       opening false e = closing (eqb k 6) e refl
 
   -- a byte that was taken from its source
-  byteSim : (x : ℕ) → Sim (M.scanByte r (getD T x 0) x (lent l o)) (S.byte L (language T) (meaning T (s .quotes) x) x s)
+  byteSim : (x : ℕ) → Sim (M.scanByte r (getD T x 0) x heads (lent l o)) (S.byte L (language T) (meaning T (s .quotes) x) x s)
   unfolding meaning
   byteSim x = go (s .quotes) refl
     where
-      go : (q : ℕ) → s .quotes ≡ q → Sim (M.scanByte r (getD T x 0) x (lent l o)) (S.byte L (language T) (meaning T q x) x s)
+      go : (q : ℕ) → s .quotes ≡ q → Sim (M.scanByte r (getD T x 0) x heads (lent l o)) (S.byte L (language T) (meaning T q x) x s)
       go zero z = rw (le-ltb 0 (r .quotes) (omega (arith, h .quotes))) (signSim z (getD T x 0) x)
       go (suc q) z = rw (lt-ltb 0 (r .quotes) (omega (arith, h .quotes))) (quotedSim q z (getD T x 0) x)
 
-module _ {n : ℕ} {whole start : List ℕ} {r : Run} {l o : List ℕ} {s : State} (T : Table)
-    (h : Represents n builtIns whole start r (lent l o) s) (oct : HoldsOctets s) where
-  abbrev Goal : After → Step → Type 0
-  Goal a t = Simulates n builtIns whole start a t
+module _ {n : ℕ} {heads whole start : List ℕ} {r : Run} {l o : List ℕ} {s : State} (T : Table)
+    (h : Represents n builtIns heads whole start r (lent l o) s) (oct : HoldsOctets s) where
+  abbrev Goal : M.Indexed → Step → Type 0
+  Goal x t = SimulatesIndexed n builtIns whole start x t
 
   -- the next byte is one of the text
-  textSim : (t : Bytes) → s .text ≡ t → Goal (M.scanText (M.scanned r) T whole (lent l o)) (S.from (limitsOf n (length start)) (language T) [] t s)
+  textSim : (t : Bytes) → s .text ≡ t → Goal (M.scanText (M.scanned r) T whole heads (lent l o)) (S.from (limitsOf n (length start)) (language T) [] t s)
   textSim [] e =
       let q : length (drop (r .counts .read) whole) ≡ 0 = ap length (h .ahead ∙ e) in
       rw (le-leb (length whole) (r .counts .read) (omega (arith, length-drop (r .counts .read) whole))) (endTextSim builtIns-free (counted h))
@@ -174,7 +179,7 @@ module _ {n : ℕ} {whole start : List ℕ} {r : Run} {l o : List ℕ} {s : Stat
 
   -- the next byte is one of the innermost body
   bodySim : (B : Body) (Bs : List Body) → s .bodies ≡ B ∷ Bs → (t : Bytes) → B .rest ≡ t
-      → Goal (M.scanBody (M.scanned r) T (lent l o)) (S.fromBody (limitsOf n (length start)) (language T) t B Bs s)
+      → Goal (M.scanBody (M.scanned r) T heads (lent l o)) (S.fromBody (limitsOf n (length start)) (language T) t B Bs s)
   bodySim B Bs e [] q = rw (bodyOver (counted h) B Bs e q) (endBodySim builtIns-free (counted h) B Bs e)
   bodySim B Bs e (x ∷ t) q =
       let all = subst (All BodyOctets) e (oct .bodies) in
@@ -192,8 +197,8 @@ module _ {n : ℕ} {whole start : List ℕ} {r : Run} {l o : List ℕ} {s : Stat
       }
 
   -- one scan
-  pub stepSim : Goal (M.step r T whole (lent l o)) (S.scan (limitsOf n (length start)) (language T) s)
+  pub stepSim : Goal (M.step r T whole heads (lent l o)) (S.scan (limitsOf n (length start)) (language T) s)
   unfolding M.step S.scan
   stepSim =
-      byBodies builtIns-free h (M.scanText (M.scanned r) T whole (lent l o)) (M.scanBody (M.scanned r) T (lent l o)) (λ Bs. S.from (limitsOf n (length start)) (language T) Bs (s .text) s)
+      byBodiesIn builtIns-free h Goal (M.scanText (M.scanned r) T whole heads (lent l o)) (M.scanBody (M.scanned r) T heads (lent l o)) (λ Bs. S.from (limitsOf n (length start)) (language T) Bs (s .text) s)
       (λ e. textSim (s .text) refl) (λ B Bs e. bodySim B Bs e (B .rest) refl)

@@ -8,7 +8,7 @@ use Rattle.language.specs.Signs.{Bytes}
 use Rattle.language.specs.Charge.{argumentsPrice, collectedPrice, listPrice}
 use Rattle.language.specs.Scanning.{Call, Body}
 use Rattle.machine.specs.Walks.{nowhere, packed, argumentsFrom, listOverhead}
-use Rattle.machine.specs.Items.{Item, defined, listed, width, count, encodeCall, Definitions}
+use Rattle.machine.specs.Items.{Head, Item, defined, listed, width, count, encodeCall, Definitions}
 
 -- the positions of a standing: where the left stack ends, the innermost call and the length cell of its argument in hand; the
 -- list of the innermost body, the definition that it reads and how far
@@ -23,7 +23,7 @@ pub record Places : Type 0 where
 -- a definition; a call being collected, with what its waiting length cell holds; a body being read: its name and parameters, the
 -- definitions made while they were collected, the definition that is read, its number and value, and how far it is read
 pub data Frame : Type 0 where
-  made : ℕ → Bytes → Bytes → Bytes → Frame
+  made : Head → Bytes → Bytes → Bytes → Frame
   collects : List Bytes → Bytes → ℕ → Frame
   reads : List Bytes → List Item → ℕ → ℕ → Bytes → ℕ → Frame
 
@@ -33,7 +33,7 @@ address n items = n - width items
 
 -- the definition at a position: its number, counted from the oldest, `base` being older than all items, and its value
 pub data At (n base : ℕ) : List Item → ℕ → ℕ → Bytes → Type 0 where
-  here : {f : ℕ} {name value spare : Bytes} {items : List Item} {d k : ℕ}
+  here : {f : Head} {name value spare : Bytes} {items : List Item} {d k : ℕ}
       → d ≡ address n (defined f name value spare ∷ items) → k ≡ base + count items → At n base (defined f name value spare ∷ items) d k value
   there : {i : Item} {items : List Item} {d k : ℕ} {v : Bytes} → At n base items d k v → At n base (i ∷ items) d k v
 

@@ -3,7 +3,7 @@ use Prim.Native.Nat.{ℕ, zero, suc, _+_, _≤_}
 use mathlib.Core.Path.{_≡_}
 use mathlib.Core.Bool.{cond}
 use mathlib.Core.List.{List, [], _∷_, _++_}
-use lib.ListN.{length, take, drop}
+use lib.ListN.{length, take, drop, getD}
 use lib.Dec.{eqb, leb}
 use Rattle.memory.specs.Block.{block}
 use Rattle.language.specs.Signs.{cellsLimit}
@@ -13,8 +13,9 @@ use Rattle.language.specs.Scanning.{State, Standing}
 use Rattle.language.specs.Expansion.{Lent}
 use Rattle.machine.specs.declared.run.Run.{Run}
 use Rattle.machine.specs.declared.run.Answer.the-variants.{Ended}
-use Rattle.machine.specs.Walks.{headSize, isLocked, nameLength, room, valueLength, nextPosition, nextList}
+use Rattle.machine.specs.Walks.{headSize, listOverhead, high, low, isLocked, nameLength, room, valueLength, size, listLink, groupLink}
 use Rattle.machine.specs.Items.{Item, encode, width, definitionsOf, count}
+use Rattle.machine.specs.Index.{Index}
 use Rattle.machine.specs.Frames.{Places, Frame, items, places, lefts, calls, bodies, Valid}
 use Rattle.machine.specs.Machine.{After}
 
@@ -27,6 +28,13 @@ definitionAt l p = record {
   content = macro (record { value = block (p + headSize + nameLength l p) (valueLength l p) l; room = room l p; locked = isLocked l p });
 }
 
+-- the position and the list behind an item
+abbrev pub nextPosition : List ℕ → ℕ → ℕ → ℕ
+nextPosition l p list = cond (eqb p list) (p + high (listLink l p) + listOverhead) (p + size l p)
+
+abbrev pub nextList : List ℕ → ℕ → ℕ → ℕ
+nextList l p list = cond (eqb p list) (low (listLink l p)) list
+
 -- from a position on, newest first, in at most so many turns: the lists of bodies, known by their positions, are stepped over
 unfoldable pub definitionsHeldFrom : ℕ → List ℕ → ℕ → ℕ → List Definition
 definitionsHeldFrom zero l p list = []
@@ -37,6 +45,14 @@ definitionsHeldFrom (suc t) l p list =
 -- the definitions that the cells hold from `right` on, where `list` is the list of the innermost body being read
 abbrev pub definitionsHeld : List ℕ → ℕ → ℕ → List Definition
 definitionsHeld l right list = definitionsHeldFrom (length l) l right list
+
+-- the definitions of a group: from the one at a position on, each linked to the next older one, in at most so many turns
+unfoldable pub groupHeldFrom : ℕ → List ℕ → ℕ → List Definition
+groupHeldFrom zero l p = []
+groupHeldFrom (suc t) l p = let r = groupHeldFrom t l (groupLink l p) in cond (leb (length l) p) [] (definitionAt l p ∷ r)
+
+abbrev pub groupHeld : List ℕ → List ℕ → ℕ → List Definition
+groupHeld l heads g = groupHeldFrom (length l) l (getD heads g 0)
 
 -- What a run shows ---------------------------------------------------------------------------------------------------
 
@@ -82,9 +98,10 @@ pub record Stands (n : ℕ) (older : List Definition) (its : List Item) (from st
   pub definitions : ds ≡ definitionsOf its ++ older
   pub live : stand ≡ count its
 
--- a standing lies so, its definitions in these items
-pub record Lies (n : ℕ) (older : List Definition) (start : List ℕ) (its : List Item) (r : Run) (m : Lent) (w : Standing) : Type 0 where
+-- a standing lies so, its definitions in these items, which the heads index
+pub record Lies (n : ℕ) (older : List Definition) (heads start : List ℕ) (its : List Item) (r : Run) (m : Lent) (w : Standing) : Type 0 where
   pub stands : Stands n older its (r .right) (r .counts .live) (m .cells) (w .definitions)
+  pub indexed : Index n its heads
   pub wrote : Written start (r .counts .written) (m .output) (w .output)
   pub read : r .counts .read ≡ w .read
   pub scans : r .counts .scans ≡ w .scans
@@ -100,11 +117,11 @@ placesOf r = record {
   offset = r .source .offset;
 }
 
--- the run and what is lent hold the state s of a run over the text `whole`
-pub record Represents (n : ℕ) (older : List Definition) (whole start : List ℕ) (r : Run) (m : Lent) (s : State) : Type 0 where
+-- the run, the heads and what is lent hold the state s of a run over the text `whole`
+pub record Represents (n : ℕ) (older : List Definition) (heads whole start : List ℕ) (r : Run) (m : Lent) (s : State) : Type 0 where
   pub frames : List Frame
   pub valid : Valid n (length older) frames
-  pub lies : Lies n older start (items n (length older) frames) r m (s .standing)
+  pub lies : Lies n older heads start (items n (length older) frames) r m (s .standing)
   pub cellsLent : n ≤ cellsLimit
   pub ordered : r .calls .left ≤ r .right
   -- as many cells are in use as are charged

@@ -2,15 +2,20 @@
 use Prim.Native.Nat.{ℕ, _+_}
 use mathlib.Core.List.{List, [], _∷_, _++_}
 use lib.ListN.{length}
-use lib.Dec.{ltb}
+use lib.Dec.{eqb, ltb}
 use Rattle.language.specs.Signs.{Bytes}
 use Rattle.language.specs.Definitions.{Macro, Definition, macro}
 use Rattle.machine.specs.Walks.{mark}
 
--- a definition: its lock, its name, its value, and what is left of its room; or the list of a body being read: where the
+-- what stands before the name of a definition beside its lengths: its lock, and the link to the next older one of its group
+pub record Head : Type 0 where
+  pub lock : ℕ
+  pub link : ℕ
+
+-- a definition: its lock and link, its name, its value, and what is left of its room; or the list of a body being read: where the
 -- right stack stood at its `$`, its links and its reader to return to, and its name and parameters
 pub data Item : Type 0 where
-  defined : ℕ → Bytes → Bytes → Bytes → Item
+  defined : Head → Bytes → Bytes → Bytes → Item
   listed : ℕ → ℕ → ℕ → List Bytes → Item
 
 unfoldable pub encodeArguments : List Bytes → List ℕ
@@ -18,7 +23,8 @@ encodeArguments [] = []
 encodeArguments (a ∷ more) = length a ∷ (a ++ encodeArguments more)
 
 abbrev pub encodeItem : Item → List ℕ
-encodeItem (defined lock name value spare) = lock ∷ length name ∷ (length value + length spare) ∷ length value ∷ (name ++ (value ++ spare))
+encodeItem (defined f name value spare) =
+    f .lock ∷ length name ∷ (length value + length spare) ∷ length value ∷ f .link ∷ (name ++ (value ++ spare))
 encodeItem (listed to links reader arguments) = to ∷ links ∷ reader ∷ (encodeArguments arguments ++ (mark ∷ []))
 
 unfoldable pub encode : List Item → List ℕ
@@ -29,16 +35,16 @@ abbrev pub width : List Item → ℕ
 width items = length (encode items)
 
 -- what the language has of a definition in cells: it is locked where its lock is not 0
-abbrev pub macroOf : ℕ → Bytes → Bytes → Macro
-macroOf lock value spare = record { value = value; room = length value + length spare; locked = ltb 0 lock }
+abbrev pub macroOf : Head → Bytes → Bytes → Macro
+macroOf f value spare = record { value = value; room = length value + length spare; locked = ltb 0 (f .lock) }
 
-abbrev pub definitionOf : ℕ → Bytes → Bytes → Bytes → Definition
-definitionOf lock name value spare = record { name = name; content = macro (macroOf lock value spare) }
+abbrev pub definitionOf : Head → Bytes → Bytes → Bytes → Definition
+definitionOf f name value spare = record { name = name; content = macro (macroOf f value spare) }
 
 -- the definitions among the items
 unfoldable pub definitionsOf : List Item → List Definition
 definitionsOf [] = []
-definitionsOf (defined lock name value spare ∷ items) = definitionOf lock name value spare ∷ definitionsOf items
+definitionsOf (defined f name value spare ∷ items) = definitionOf f name value spare ∷ definitionsOf items
 definitionsOf (listed to links reader arguments ∷ items) = definitionsOf items
 
 abbrev pub count : List Item → ℕ
@@ -52,5 +58,5 @@ encodeCall to from links waits ended hand = to ∷ from ∷ links ∷ (encodeArg
 -- only definitions
 unfoldable pub Definitions : List Item → Type 0
 Definitions [] = Unit {0}
-Definitions (defined lock name value spare ∷ items) = Definitions items
+Definitions (defined f name value spare ∷ items) = Definitions items
 Definitions (listed to links reader arguments ∷ items) = ⊥

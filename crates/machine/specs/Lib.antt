@@ -2,7 +2,9 @@ pub mod Walks
 pub mod Machine
 pub mod Items
 pub mod Frames
+pub mod Index
 pub mod Held
+pub mod Grouped
 pub mod Moving
 pub mod Carried
 pub mod Origins

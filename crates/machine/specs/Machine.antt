@@ -15,7 +15,7 @@ use Rattle.language.specs.Outcomes
 use Rattle.language.specs.BuiltIns.{needs}
 use Rattle.language.specs.Charge.{openPrice}
 use Rattle.language.specs.Expansion.{Lent, lent}
-use Rattle.machine.specs.Walks.{nowhere, mark, packed, high, low, cell, headSize, argumentsFrom, listOverhead, isLocked, withLock, nameLength, room, valueLength, withValueLength, withHead, rightBefore, withRightBefore, listLink, returnLink, withLinks, argument, newest, definitions, isRead, chosen, builtInNamed, compare, calculate}
+use Rattle.machine.specs.Walks.{nowhere, mark, packed, high, low, cell, headSize, argumentsFrom, listOverhead, isLocked, withLock, nameLength, room, valueLength, withValueLength, withHead, rightBefore, withRightBefore, listLink, returnLink, withLinks, argument, newest, definitions, isRead, chosen, removed, linkedAt, headedAt, relinked, restored, builtInNamed, compare, calculate}
 use Rattle.decimal.specs.declared.operations.Answer as Arithmetical
 use Rattle.decimal.specs.declared.shortest.Decimal.{Decimal}
 use Rattle.decimal.specs.Operand.{isDigit}
@@ -164,6 +164,18 @@ pub record After : Type 0 where
 abbrev pub leaves : Stepped → Lent → After
 leaves st m = record { run = st .run; answer = st .answer; lent = m }
 
+-- and the heads of the index
+pub record Indexed : Type 0 where
+  pub after : After
+  pub heads : List ℕ
+
+abbrev pub leavesIndexed : Stepped → Lent → List ℕ → Indexed
+leavesIndexed st m h = record { after = leaves st m; heads = h }
+
+-- the index is as it was
+abbrev pub keeping : List ℕ → After → Indexed
+keeping h a = record { after = a; heads = h }
+
 -- an outcome with nothing changed
 abbrev pub ends : ℕ → Run → Lent → After
 ends n r m = record { run = r; answer = Ended n; lent = m }
@@ -281,22 +293,37 @@ bodyEnded r to links reader gone =
     (withRight (r .right + (to - r .source .list))
     (withQuotes 0 (withCharge (r .charge - (to - r .source .list)) (withLive (r .counts .live - gone) r))))
 
-abbrev pub endBodyTo : Run → ℕ → ℕ → ℕ → ℕ → Lent → After
-endBodyTo r to links reader gone m =
-    cond (ltb to (r .source .list)) (damaged r m)
-    (cond (ltb (length (m .cells)) to) (damaged r m)
-    (cond (ltb (r .source .list) (r .right)) (damaged r m)
-    (cond (ltb (r .counts .live) gone) (damaged r m)
-    (goes (bodyEnded r to links reader gone)
-    (withCells (moved (r .right) (r .right + (to - r .source .list)) (r .source .list - r .right) (m .cells)) m)))))
+-- those that stood before it, from `right` on, are taken out of the index, moved and put back, linked anew; those from `behind`
+-- up to `to` are taken out in between
+pub record Shifted : Type 0 where
+  pub cells : List ℕ
+  pub heads : List ℕ
 
-abbrev pub endBody : Run → Lent → After
-endBody r m =
+abbrev pub shiftedOver : ℕ → ℕ → ℕ → List ℕ → List ℕ → Shifted
+shiftedOver right list to l h =
+    let l₁ = relinked (moved right (right + (to - list)) (list - right) l) h (right + (to - list)) to list (to - list) in
+    record { cells = l₁; heads = restored l₁ h (right + (to - list)) to }
+
+abbrev pub shifted : ℕ → ℕ → ℕ → ℕ → List ℕ → List ℕ → Shifted
+shifted right list behind to l h = shiftedOver right list to l (removed l (removed l h right list) behind to)
+
+abbrev pub endBodyTo : Run → ℕ → ℕ → ℕ → ℕ → List ℕ → Lent → Indexed
+endBodyTo r to links reader gone h m =
+    let list = r .source .list in
+    let x = shifted (r .right) list (list + high links + listOverhead) to (m .cells) h in
+    cond (ltb to list) (keeping h (damaged r m))
+    (cond (ltb (length (m .cells)) to) (keeping h (damaged r m))
+    (cond (ltb list (r .right)) (keeping h (damaged r m))
+    (cond (ltb (r .counts .live) gone) (keeping h (damaged r m))
+    (record { after = goes (bodyEnded r to links reader gone) (withCells (x .cells) m); heads = x .heads }))))
+
+abbrev pub endBody : Run → List ℕ → Lent → Indexed
+endBody r h m =
     let l = m .cells in
     let list = r .source .list in
-    cond (ownCall r l) (ends Outcomes.bodyInCall r m)
+    cond (ownCall r l) (keeping h (ends Outcomes.bodyInCall r m))
     (endBodyTo r (rightBefore l list) (listLink l list) (returnLink l list)
-    (definitions l (list + high (listLink l list) + listOverhead) (rightBefore l list)) m)
+    (definitions l (list + high (listLink l list) + listOverhead) (rightBefore l list)) h m)
 
 -- Built-ins, the `;` being charged -----------------------------------------------------------------------------------
 
@@ -326,30 +353,37 @@ goesOn (Ended n) = false
 goesOn Damaged = false
 goesOn Refused = false
 
-abbrev pub onward : After → (Run → After) → After
-onward a go = let b = go (a .run) in cond (goesOn (a .answer)) b a
+-- once a call has ended, what was defined since its `$` is taken out of the index
+abbrev pub unindexed : Run → List ℕ → After → Indexed
+unindexed r h a = record { after = a; heads = cond (goesOn (a .answer)) (removed (a .lent .cells) h (r .right) (a .run .right)) h }
+
+abbrev pub onward : Indexed → (Run → List ℕ → Indexed) → Indexed
+onward x go = let y = go (x .after .run) (x .heads) in cond (goesOn (x .after .answer)) y x
 
 -- the list is exchanged for the definition, which is put before `right`
 abbrev pub defined : Run → ℕ → Run
 defined r size = withRight (r .right - size) (withCharge (r .charge + size) (withLive (r .counts .live + 1) r))
 
-abbrev pub defineIn : Run → ℕ → ℕ → ℕ → ℕ → Lent → After
-defineIn r name value letters bytes m =
+-- the cells of the definition, and the index with it
+abbrev pub definedCells : ℕ → ℕ → ℕ → ℕ → ℕ → List ℕ → List ℕ
+definedCells right name value letters bytes l =
+    withHead (moved (name + 1) (right - (letters + bytes)) letters (moved (value + 1) (right - bytes) bytes l))
+    (right - (headSize + letters + bytes)) letters bytes
+
+abbrev pub defineIn : Run → ℕ → ℕ → ℕ → ℕ → List ℕ → Lent → Indexed
+defineIn r name value letters bytes h m =
     let size = headSize + letters + bytes in
-    cond (ltb (r .right) (size + r .calls .left)) (damaged r m)
-    (cond (leb cellsLimit (r .counts .live)) (damaged r m)
-    (goes (defined r size)
-    (withCells
-    (withHead (moved (name + 1) (r .right - (letters + bytes)) letters (moved (value + 1) (r .right - bytes) bytes (m .cells)))
-    (r .right - size) letters bytes)
-    m)))
+    let l = definedCells (r .right) name value letters bytes (m .cells) in
+    cond (ltb (r .right) (size + r .calls .left)) (keeping h (damaged r m))
+    (cond (leb cellsLimit (r .counts .live)) (keeping h (damaged r m))
+    (record { after = goes (defined r size) (withCells (linkedAt l h (r .right - size)) m); heads = headedAt l h (r .right - size) }))
 
 -- DEF: 33, or the definition
-abbrev pub def : Run → ℕ → ℕ → Lent → After
-def r name value m =
+abbrev pub def : Run → ℕ → ℕ → List ℕ → Lent → Indexed
+def r name value h m =
     let l = m .cells in
-    cond (eqb (getD l name 0) 0) (ends Outcomes.emptyName r m)
-    (onward (release r 0 m) (λ r₁. defineIn r₁ name value (getD l name 0) (getD l value 0) m))
+    cond (eqb (getD l name 0) 0) (keeping h (ends Outcomes.emptyName r m))
+    (onward (unindexed r h (release r 0 m)) (λ r₁ h₁. defineIn r₁ name value (getD l name 0) (getD l value 0) h₁ m))
 
 -- A result of so many bytes: it is charged where a call collects it, and counted where it goes to the output; then its call ends.
 abbrev pub isOuter : Run → List ℕ → Bool
@@ -400,8 +434,8 @@ valOf r name d m =
     let l = m .cells in
     cond (eqb d nowhere) (refuseName r name m) (giveBlock r (d + headSize + nameLength l d) (valueLength l d) m)
 
-abbrev pub val : Run → ℕ → Lent → After
-val r name m = valOf r name (newest (m .cells) (r .right) (r .source .list) name) m
+abbrev pub val : Run → ℕ → List ℕ → Lent → After
+val r name h m = valOf r name (newest (m .cells) h name) m
 
 -- UPDATE: "15 for the name given, 19", 36, "20, 21"
 abbrev pub updateIn : Run → ℕ → ℕ → Lent → After
@@ -423,8 +457,8 @@ updateAt r value d m =
 abbrev pub updateOf : Run → ℕ → ℕ → ℕ → Lent → After
 updateOf r name value d m = cond (eqb d nowhere) (refuseName r name m) (updateAt r value d m)
 
-abbrev pub update : Run → ℕ → ℕ → Lent → After
-update r name value m = updateOf r name value (newest (m .cells) (r .right) (r .source .list) name) m
+abbrev pub update : Run → ℕ → ℕ → List ℕ → Lent → After
+update r name value h m = updateOf r name value (newest (m .cells) h name) m
 
 -- the arithmetic
 abbrev pub giveAnswer : Run → Arithmetical.Answer → Lent → After
@@ -442,8 +476,6 @@ chooseAt r name second m = cond (eqb second nowhere) (giveBlock r name 0 m) (giv
 abbrev pub choose : Run → ℕ → Lent → After
 choose r name m = chooseAt r name (chosen (m .cells) name) m
 
--- the built-in that has its parameters, the list of its call being at `name`: "Surplus parameters are ignored." IF has none that
--- are surplus
 -- LOCK: the lock is set where the definition stands, and the list goes
 abbrev pub lockIn : Run → ℕ → Lent → After
 lockIn r d m = let a = release r 0 m in record { run = a .run; answer = a .answer; lent = withCells (withLock (m .cells) d) m }
@@ -451,32 +483,35 @@ lockIn r d m = let a = release r 0 m in record { run = a .run; answer = a .answe
 abbrev pub lockOf : Run → ℕ → ℕ → Lent → After
 lockOf r name d m = cond (eqb d nowhere) (refuseName r name m) (lockIn r d m)
 
-abbrev pub lock : Run → ℕ → Lent → After
-lock r name m = lockOf r name (newest (m .cells) (r .right) (r .source .list) name) m
+abbrev pub lock : Run → ℕ → List ℕ → Lent → After
+lock r name h m = lockOf r name (newest (m .cells) h name) m
 
-abbrev pub performIn : Run → BuiltIn → ℕ → ℕ → ℕ → Lent → After
-performIn r Def name first second m = def r first second m
-performIn r Val name first second m = val r first m
-performIn r Update name first second m = update r first second m
-performIn r (Arithmetic op) name first second m = giveAnswer r (calculate op (m .cells) first second) m
-performIn r Seq name first second m = giveCount r (compare (m .cells) first second) m
-performIn r Size name first second m = giveCount r (getD (m .cells) first 0) m
-performIn r If name first second m = choose r name m
-performIn r Lock name first second m = lock r first m
+-- the built-in that has its parameters, the list of its call being at `name`: "Surplus parameters are ignored." IF has none that
+-- are surplus
+abbrev pub performIn : Run → BuiltIn → ℕ → ℕ → ℕ → List ℕ → Lent → Indexed
+performIn r Def name first second h m = def r first second h m
+performIn r Val name first second h m = unindexed r h (val r first h m)
+performIn r Update name first second h m = unindexed r h (update r first second h m)
+performIn r (Arithmetic op) name first second h m = unindexed r h (giveAnswer r (calculate op (m .cells) first second) m)
+performIn r Seq name first second h m = unindexed r h (giveCount r (compare (m .cells) first second) m)
+performIn r Size name first second h m = unindexed r h (giveCount r (getD (m .cells) first 0) m)
+performIn r If name first second h m = unindexed r h (choose r name m)
+performIn r Lock name first second h m = unindexed r h (lock r first h m)
 
-abbrev pub perform : Run → BuiltIn → ℕ → Lent → After
-perform r b name m = performIn r b name (argument (m .cells) name 1) (argument (m .cells) name 2) m
+abbrev pub perform : Run → BuiltIn → ℕ → List ℕ → Lent → Indexed
+perform r b name h m = performIn r b name (argument (m .cells) name 1) (argument (m .cells) name 2) h m
 
 -- 13: "a parameter .. needed by a built-in, was not supplied"
-abbrev pub supplied : Run → BuiltIn → ℕ → Lent → After
-supplied r b name m = cond (eqb (argument (m .cells) name (needs b)) nowhere) (ends Outcomes.notSupplied r m) (perform r b name m)
+abbrev pub supplied : Run → BuiltIn → ℕ → List ℕ → Lent → Indexed
+supplied r b name h m =
+    cond (eqb (argument (m .cells) name (needs b)) nowhere) (keeping h (ends Outcomes.notSupplied r m)) (perform r b name h m)
 
-abbrev pub applyNamed : Run → Named → ℕ → Lent → After
-applyNamed r Unknown name m = ends Outcomes.notDefined r m
-applyNamed r (Known b) name m = supplied r b name m
+abbrev pub applyNamed : Run → Named → ℕ → List ℕ → Lent → Indexed
+applyNamed r Unknown name h m = keeping h (ends Outcomes.notDefined r m)
+applyNamed r (Known b) name h m = supplied r b name h m
 
-abbrev pub applyBuiltIn : Run → ℕ → Lent → After
-applyBuiltIn r name m = applyNamed r (builtInNamed (m .cells) name) name m
+abbrev pub applyBuiltIn : Run → ℕ → List ℕ → Lent → Indexed
+applyBuiltIn r name h m = applyNamed r (builtInNamed (m .cells) name) name h m
 
 -- `;` ----------------------------------------------------------------------------------------------------------------
 
@@ -496,21 +531,23 @@ readBody r definition m =
     goes (bodyBegun r definition (r .right - size) (returnLink (m .cells) (r .calls .call)))
     (withCells (listMoved r (r .right - size) size (m .cells)) m)
 
-abbrev pub applyFound : Run → ℕ → Lent → After
-applyFound r definition m = cond (eqb definition nowhere) (applyBuiltIn r (r .calls .call + argumentsFrom) m) (readBody r definition m)
+abbrev pub applyFound : Run → ℕ → List ℕ → Lent → Indexed
+applyFound r definition h m =
+    cond (eqb definition nowhere) (applyBuiltIn r (r .calls .call + argumentsFrom) h m) (keeping h (readBody r definition m))
 
-abbrev pub applyMarked : Run → Lent → After
-applyMarked r m = applyFound r (newest (m .cells) (r .right) (r .source .list) (r .calls .call + argumentsFrom)) m
+abbrev pub applyMarked : Run → List ℕ → Lent → Indexed
+applyMarked r h m = applyFound r (newest (m .cells) h (r .calls .call + argumentsFrom)) h m
 
-abbrev pub applyCall : Run → Lent → After
-applyCall r m =
-    cond (leb (length (m .cells)) (r .charge)) (ends Outcomes.noCellsLeft r m)
-    (cond (ltb (r .calls .left) (r .calls .call + openPrice)) (damaged r m)
-    (applyMarked (charged 1 r) (withCells (set (endArgument r (m .cells)) (r .calls .left) mark) m)))
+abbrev pub applyCall : Run → List ℕ → Lent → Indexed
+applyCall r h m =
+    cond (leb (length (m .cells)) (r .charge)) (keeping h (ends Outcomes.noCellsLeft r m))
+    (cond (ltb (r .calls .left) (r .calls .call + openPrice)) (keeping h (damaged r m))
+    (applyMarked (charged 1 r) h (withCells (set (endArgument r (m .cells)) (r .calls .left) mark) m)))
 
-abbrev pub apply : Run → ℕ → Lent → After
-apply r b m =
-    cond (ownCall r (m .cells)) (applyCall r m) (cond (eqb (r .source .list) nowhere) (put r b m) (ends Outcomes.appliesNothing r m))
+abbrev pub apply : Run → ℕ → List ℕ → Lent → Indexed
+apply r b h m =
+    cond (ownCall r (m .cells)) (applyCall r h m)
+    (cond (eqb (r .source .list) nowhere) (keeping h (put r b m)) (keeping h (ends Outcomes.appliesNothing r m)))
 
 -- One scan -----------------------------------------------------------------------------------------------------------
 
@@ -522,15 +559,16 @@ scanQuoted r kind b m =
     let q = quotesAfter (r .quotes) kind in
     cond (eqb q 0) (goes (withQuotes 0 r) m) (put (withQuotes q r) b m)
 
-abbrev pub scanSign : Run → ℕ → ℕ → Lent → After
-scanSign r kind b m =
-    cond (eqb kind 1) (openCall r m)
-    (cond (eqb kind 2) (separate r b m)
-    (cond (eqb kind 3) (apply r b m)
-    (cond (eqb kind 4) (fetch r b m) (cond (eqb kind 5) (goes (withQuotes 1 r) m) (cond (eqb kind 6) (unquote r b m) (put r b m))))))
+abbrev pub scanSign : Run → ℕ → ℕ → List ℕ → Lent → Indexed
+scanSign r kind b h m =
+    cond (eqb kind 1) (keeping h (openCall r m))
+    (cond (eqb kind 2) (keeping h (separate r b m))
+    (cond (eqb kind 3) (apply r b h m)
+    (cond (eqb kind 4) (keeping h (fetch r b m))
+    (cond (eqb kind 5) (keeping h (goes (withQuotes 1 r) m)) (cond (eqb kind 6) (keeping h (unquote r b m)) (keeping h (put r b m)))))))
 
-abbrev pub scanByte : Run → ℕ → ℕ → Lent → After
-scanByte r kind b m = cond (ltb 0 (r .quotes)) (scanQuoted r kind b m) (scanSign r kind b m)
+abbrev pub scanByte : Run → ℕ → ℕ → List ℕ → Lent → Indexed
+scanByte r kind b h m = cond (ltb 0 (r .quotes)) (keeping h (scanQuoted r kind b m)) (scanSign r kind b h m)
 
 -- the next byte of the innermost body, else of the text, or nowhere at its end; the standing behind it; and that end
 abbrev pub nextByte : Run → List ℕ → List ℕ → ℕ
@@ -541,29 +579,29 @@ nextByte r text l =
 abbrev pub passed : Run → Run
 passed r = cond (eqb (r .source .list) nowhere) (withRead (r .counts .read + 1) r) (withOffset (r .source .offset + 1) r)
 
-abbrev pub endSource : Run → Lent → After
-endSource r m = cond (eqb (r .source .list) nowhere) (endText r m) (endBody r m)
+abbrev pub endSource : Run → List ℕ → Lent → Indexed
+endSource r h m = cond (eqb (r .source .list) nowhere) (keeping h (endText r m)) (endBody r h m)
 
 -- one scan by its source, as the scanning of crate language has it
-abbrev pub scanText : Run → List ℕ → List ℕ → Lent → After
-scanText r kinds text m =
+abbrev pub scanText : Run → List ℕ → List ℕ → List ℕ → Lent → Indexed
+scanText r kinds text h m =
     let b = getD text (r .counts .read) 0 in
-    cond (leb (length text) (r .counts .read)) (endText r m) (scanByte (withRead (r .counts .read + 1) r) (getD kinds b 0) b m)
+    cond (leb (length text) (r .counts .read)) (keeping h (endText r m)) (scanByte (withRead (r .counts .read + 1) r) (getD kinds b 0) b h m)
 
-abbrev pub scanBody : Run → List ℕ → Lent → After
-scanBody r kinds m =
+abbrev pub scanBody : Run → List ℕ → List ℕ → Lent → Indexed
+scanBody r kinds h m =
     let b = bodyByte r (m .cells) in
-    cond (eqb b nowhere) (endBody r m) (scanByte (withOffset (r .source .offset + 1) r) (getD kinds b 0) b m)
+    cond (eqb b nowhere) (endBody r h m) (scanByte (withOffset (r .source .offset + 1) r) (getD kinds b 0) b h m)
 
 -- "One scan takes the standing of the run and gives the next."
-unfoldable pub step : Run → List ℕ → List ℕ → Lent → After
-step r kinds text m =
+unfoldable pub step : Run → List ℕ → List ℕ → List ℕ → Lent → Indexed
+step r kinds text h m =
     let r₁ = scanned r in
-    cond (eqb (r .source .list) nowhere) (scanText r₁ kinds text m) (scanBody r₁ kinds m)
+    cond (eqb (r .source .list) nowhere) (scanText r₁ kinds text h m) (scanBody r₁ kinds h m)
 
 -- Scan after scan, so many times, while the run goes on.
-unfoldable pub steps : ℕ → List ℕ → List ℕ → After → After
-steps zero kinds text a = a
-steps (suc k) kinds text a =
-    let b = steps k kinds text (step (a .run) kinds text (a .lent)) in
-    cond (goesOn (a .answer)) b a
+unfoldable pub steps : ℕ → List ℕ → List ℕ → Indexed → Indexed
+steps zero kinds text x = x
+steps (suc k) kinds text x =
+    let y = steps k kinds text (step (x .after .run) kinds text (x .heads) (x .after .lent)) in
+    cond (goesOn (x .after .answer)) y x

@@ -23,18 +23,18 @@ notedFrom written os ns = numbers (placed written (readsOf os) (ns .origins)) (p
 
 -- Of so many scans: whatever state is held, the numbers are those of the scanning, where they are as many as the output and the
 -- bytes of the text can be counted in 32 bits.
-abbrev pub Noted : Table → Bytes → ℕ → Run → Lent → Numbers → Numbers → Type 0
-Noted T text due r m before after =
-    (start : Bytes) (s : State) → Holds text start r m s → tooShort before (length (m .output)) ≡ false
+abbrev pub Noted : Table → Bytes → ℕ → Run → List ℕ → Lent → Numbers → Numbers → Type 0
+Noted T text due r h m before after =
+    (start : Bytes) (s : State) → Holds h text start r m s → tooShort before (length (m .output)) ≡ false
     → s .standing .read + length (s .text) < 4294967296
     → after ≡ notedFrom (r .counts .written) (originsFrom (limitsOf (length (m .cells)) (length (m .output))) (language T) due (next s)) before
 
 -- a standing whose numbers are out of range is refused, and nothing is touched; nor are runs of numbers that are too short, as
 -- those of a caller who lends none
-pub record Notes (T : Table) (text : Bytes) (allowance : ℕ) (r : Run) (m : Lent) (before after : Numbers) : Type 0 where
+pub record Notes (T : Table) (text : Bytes) (allowance : ℕ) (r : Run) (h : List ℕ) (m : Lent) (before after : Numbers) : Type 0 where
   pub refused : isInRange r (length (m .cells)) (length (m .output)) ≡ false → after ≡ before
   pub kept : tooShort before (length (m .output)) ≡ true → after ≡ before
-  pub noted : isInRange r (length (m .cells)) (length (m .output)) ≡ true → Noted T text (portion allowance (r .counts .scans)) r m before after
+  pub noted : isInRange r (length (m .cells)) (length (m .output)) ≡ true → Noted T text (portion allowance (r .counts .scans)) r h m before after
 
 -- What each function does --------------------------------------------------------------------------------------------
 

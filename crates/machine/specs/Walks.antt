@@ -14,6 +14,7 @@ use Rattle.decimal.specs.Arithmetic.{ofOperands}
 use Rattle.decimal.specs.Answers.{answerOf}
 use Rattle.language.specs.Signs.{ascii}
 use Rattle.language.specs.Definitions.{Content, macro, builtIn, Definition}
+use Rattle.language.specs.Groups.{group, ofGroup}
 use Rattle.language.specs.BuiltIns.{builtIns}
 use Rattle.machine.specs.declared.operands.Named.{Named}
 use Rattle.machine.specs.declared.operands.Named.the-variants.{Known, Unknown}
@@ -22,7 +23,7 @@ use Rattle.machine.specs.declared.operands.Named.the-variants.{Known, Un
 abbrev pub nowhere : ℕ
 nowhere = 65535
 
--- ends a list, and is no length
+-- ends a list, and a group; it is no length and no position
 abbrev pub mark : ℕ
 mark = 65536
 
@@ -44,7 +45,7 @@ cell n = n % 4294967296
 
 -- the cells of a definition beside its name and the room of its value
 abbrev pub headSize : ℕ
-headSize = 4
+headSize = 5
 
 -- where the arguments of an open call, or of a list, begin
 abbrev pub argumentsFrom : ℕ
@@ -73,7 +74,14 @@ valueLength l p = getD l (p + 3) 0
 abbrev pub withValueLength : List ℕ → ℕ → ℕ → List ℕ
 withValueLength l p count = set l (p + 3) count
 
--- the head of a definition is written: "a fresh unlocked definition"
+-- Document 02, Thirteen: where the next older definition of its group stands, or the mark
+abbrev pub groupLink : List ℕ → ℕ → ℕ
+groupLink l p = getD l (p + 4) 0
+
+abbrev pub withGroupLink : List ℕ → ℕ → ℕ → List ℕ
+withGroupLink l p link = set l (p + 4) link
+
+-- the head of a definition is written, but for its link: "a fresh unlocked definition"
 abbrev pub withHead : List ℕ → ℕ → ℕ → ℕ → List ℕ
 withHead l p letters bytes = set (set (set (set l p 0) (p + 1) (cell letters)) (p + 2) (cell bytes)) (p + 3) (cell bytes)
 
@@ -119,25 +127,26 @@ chosen l name = chosenFrom (length l) l name
 abbrev pub size : List ℕ → ℕ → ℕ
 size l p = headSize + nameLength l p + room l p
 
-abbrev pub isNamed : List ℕ → ℕ → ℕ → ℕ → ℕ → Bool
-isNamed l p list name count = cond (eqb p list) false (cond (eqb (nameLength l p) count) (sameBlocks (p + headSize) (name + 1) count l) false)
+-- the group of the name at a length cell, and that of the definition at p
+abbrev pub nameGroup : List ℕ → ℕ → ℕ
+nameGroup l name = group (block (name + 1) (getD l name 0) l)
 
--- the position and the list behind an item
-abbrev pub nextPosition : List ℕ → ℕ → ℕ → ℕ
-nextPosition l p list = cond (eqb p list) (p + high (listLink l p) + listOverhead) (p + size l p)
+abbrev pub definitionGroup : List ℕ → ℕ → ℕ
+definitionGroup l p = group (block (p + headSize) (nameLength l p) l)
 
-abbrev pub nextList : List ℕ → ℕ → ℕ → ℕ
-nextList l p list = cond (eqb p list) (low (listLink l p)) list
+abbrev pub isNamed : List ℕ → ℕ → ℕ → ℕ → Bool
+isNamed l p name count = cond (eqb (nameLength l p) count) (sameBlocks (p + headSize) (name + 1) count l) false
 
-unfoldable pub newestFrom : ℕ → List ℕ → ℕ → ℕ → ℕ → ℕ → ℕ
-newestFrom zero l p list name count = nowhere
-newestFrom (suc t) l p list name count =
-    let r = newestFrom t l (nextPosition l p list) (nextList l p list) name count in
-    cond (leb (length l) p) nowhere (cond (isNamed l p list name count) p r)
+unfoldable pub newestFrom : ℕ → List ℕ → ℕ → ℕ → ℕ → ℕ
+newestFrom zero l p name count = nowhere
+newestFrom (suc t) l p name count =
+    let r = newestFrom t l (groupLink l p) name count in
+    cond (leb (length l) p) nowhere (cond (isNamed l p name count) p r)
 
--- the newest definition with the name at a length cell, or nowhere
-abbrev pub newest : List ℕ → ℕ → ℕ → ℕ → ℕ
-newest l right list name = newestFrom (length l) l right list name (getD l name 0)
+-- "A lookup reads one group": the newest definition with the name at a length cell, or nowhere. `heads` are where the newest
+-- definition of each group stands, or the mark.
+abbrev pub newest : List ℕ → List ℕ → ℕ → ℕ
+newest l heads name = newestFrom (length l) l (getD heads (nameGroup l name) 0) name (getD l name 0)
 
 unfoldable pub definitionsFrom : ℕ → List ℕ → ℕ → ℕ → ℕ
 definitionsFrom zero l p to = 0
@@ -157,6 +166,54 @@ isReadFrom (suc t) l list body definition =
 abbrev pub isRead : List ℕ → ℕ → ℕ → ℕ → Bool
 isRead l list body definition = isReadFrom (length l) l list body definition
 
+-- The index ----------------------------------------------------------------------------------------------------------
+
+-- the definition at p, the newest of its group, is taken out of the index
+abbrev pub removedAt : List ℕ → List ℕ → ℕ → List ℕ
+removedAt l heads p = set heads (definitionGroup l p) (groupLink l p)
+
+unfoldable pub removedFrom : ℕ → List ℕ → List ℕ → ℕ → ℕ → List ℕ
+removedFrom zero l heads p to = heads
+removedFrom (suc t) l heads p to = let r = removedFrom t l (removedAt l heads p) (p + size l p) to in cond (leb to p) heads r
+
+-- the definitions from one position to another are taken out, the newest first
+abbrev pub removed : List ℕ → List ℕ → ℕ → ℕ → List ℕ
+removed l heads from to = removedFrom (length l) l heads from to
+
+-- the definition at p is linked to the newest of its group
+abbrev pub linkedAt : List ℕ → List ℕ → ℕ → List ℕ
+linkedAt l heads p = withGroupLink l p (getD heads (definitionGroup l p) 0)
+
+-- and is the newest of its group
+abbrev pub headedAt : List ℕ → List ℕ → ℕ → List ℕ
+headedAt l heads p = set heads (definitionGroup l p) (cell p)
+
+-- A definition has moved up by `by` with all that stood before `end`: its link to one of these moves with it, and any other
+-- becomes the link to the newest of its group among those that did not move.
+abbrev pub linkMoved : List ℕ → List ℕ → ℕ → ℕ → ℕ → ℕ
+linkMoved l heads p end by = cond (ltb (groupLink l p) end) (cell (groupLink l p + by)) (getD heads (definitionGroup l p) 0)
+
+unfoldable pub relinkedFrom : ℕ → List ℕ → List ℕ → ℕ → ℕ → ℕ → ℕ → List ℕ
+relinkedFrom zero l heads p to end by = l
+relinkedFrom (suc t) l heads p to end by =
+    let r = relinkedFrom t (withGroupLink l p (linkMoved l heads p end by)) heads (p + size l p) to end by in
+    cond (leb to p) l r
+
+abbrev pub relinked : List ℕ → List ℕ → ℕ → ℕ → ℕ → ℕ → List ℕ
+relinked l heads from to end by = relinkedFrom (length l) l heads from to end by
+
+-- the definition at p is the newest of its group, unless one that stands before `to` is
+abbrev pub restoredAt : List ℕ → List ℕ → ℕ → ℕ → List ℕ
+restoredAt l heads p to = cond (ltb (getD heads (definitionGroup l p) 0) to) heads (headedAt l heads p)
+
+unfoldable pub restoredFrom : ℕ → List ℕ → List ℕ → ℕ → ℕ → List ℕ
+restoredFrom zero l heads p to = heads
+restoredFrom (suc t) l heads p to = let r = restoredFrom t l (restoredAt l heads p to) (p + size l p) to in cond (leb to p) heads r
+
+-- the definitions from one position to another, linked already, are put into the index, the newest first
+abbrev pub restored : List ℕ → List ℕ → ℕ → ℕ → List ℕ
+restored l heads from to = restoredFrom (length l) l heads from to
+
 -- The names of the built-ins, and what some come to ------------------------------------------------------------------
 
 abbrev pub namedAs : Content → Named
@@ -170,8 +227,9 @@ namedAmong l name (d ∷ ds) =
     let r = namedAmong l name ds in
     cond (sameBytes (name + 1) (getD l name 0) (d .name) l) (namedAs (d .content)) r
 
+-- the built-ins are the oldest of their groups, and only those of the name's group are looked at
 abbrev pub builtInNamed : List ℕ → ℕ → Named
-builtInNamed l name = namedAmong l name builtIns
+builtInNamed l name = namedAmong l name (ofGroup (nameGroup l name) builtIns)
 
 -- SEQ: 1 where two arguments are the same, their lengths and their bytes, else 0
 abbrev pub compare : List ℕ → ℕ → ℕ → ℕ

@@ -13,16 +13,22 @@ ghost use lib.ListN.{length};
 ghost use Rattle.language.specs.Signs.{cellsLimit};
 ghost use Rattle.language.specs.Expansion.{lent};
 ghost use Rattle.machine.specs.Walks.{listOverhead};
-ghost use Rattle.machine.specs.Machine.{Sound, Marked, leaves, bodyBegun, listMoved, readBody, applyMarked, applyCall, apply};
+ghost use Rattle.machine.specs.Machine.{Sound, Marked, leaves, leavesIndexed, bodyBegun, listMoved, readBody, applyMarked, applyCall, apply};
 
 impl Run {
     // `;` in a body with no call begun in it is 10, in the text it is copied.
-    pub(crate) fn apply(self, byte: u8, cells: &mut [u32], output: &mut [u8]) -> Stepped
+    pub(crate) fn apply(
+        self,
+        byte: u8,
+        heads: &mut [u32; 64],
+        cells: &mut [u32],
+        output: &mut [u8],
+    ) -> Stepped
         requires { ⌜ Sound (length (now cells)) self × (self .counts .written ≤ length (now output)) ⌝ }
-        ensures { λ r. ⌜ leaves r (lent (now (cells .exit)) (now (output .exit))) ≡ apply self byte (lent (now (cells .entry)) (now (output .entry))) ⌝ }
+        ensures { λ r. ⌜ leavesIndexed r (lent (now (cells .exit)) (now (output .exit))) (now (heads .exit)) ≡ apply self byte (now (heads .entry)) (lent (now (cells .entry)) (now (output .entry))) ⌝ }
     {
         if self.own_call(cells) {
-            return self.apply_call(cells, output);
+            return self.apply_call(heads, cells, output);
         }
         if self.source.list == Run::NOWHERE {
             return self.put(byte, cells, output);
@@ -31,9 +37,9 @@ impl Run {
     }
 
     // "4 for its own cell, 15, 13, then the built-in's, then 4, then 5."
-    fn apply_call(self, cells: &mut [u32], output: &mut [u8]) -> Stepped
+    fn apply_call(self, heads: &mut [u32; 64], cells: &mut [u32], output: &mut [u8]) -> Stepped
         requires { ⌜ Sound (length (now cells)) self × (self .counts .written ≤ length (now output)) ⌝ }
-        ensures { λ r. ⌜ leaves r (lent (now (cells .exit)) (now (output .exit))) ≡ applyCall self (lent (now (cells .entry)) (now (output .entry))) ⌝ }
+        ensures { λ r. ⌜ leavesIndexed r (lent (now (cells .exit)) (now (output .exit))) (now (heads .exit)) ≡ applyCall self (now (heads .entry)) (lent (now (cells .entry)) (now (output .entry))) ⌝ }
     {
         if self.charge >= cells.len() {
             return self.ends_with(outcomes::NO_CELLS_LEFT);
@@ -43,18 +49,18 @@ impl Run {
         }
         self.end_argument(cells);
         memory::write(cells, self.calls.left, layout::MARK);
-        self.charged(1).apply_marked(cells, output)
+        self.charged(1).apply_marked(heads, cells, output)
     }
 
     // The call whose list is ended by its mark.
-    fn apply_marked(self, cells: &mut [u32], output: &mut [u8]) -> Stepped
+    fn apply_marked(self, heads: &mut [u32; 64], cells: &mut [u32], output: &mut [u8]) -> Stepped
         requires { ⌜ (Marked (length (now cells)) self) × (self .counts .written ≤ length (now output)) ⌝ }
-        ensures { λ r. ⌜ leaves r (lent (now (cells .exit)) (now (output .exit))) ≡ applyMarked self (lent (now (cells .entry)) (now (output .entry))) ⌝ }
+        ensures { λ r. ⌜ leavesIndexed r (lent (now (cells .exit)) (now (output .exit))) (now (heads .exit)) ≡ applyMarked self (now (heads .entry)) (lent (now (cells .entry)) (now (output .entry))) ⌝ }
     {
         let name = self.calls.call + layout::ARGUMENTS;
-        let found = lookup::newest(cells, self.right, self.source.list, name);
+        let found = lookup::newest(cells, heads, name);
         if found == Run::NOWHERE {
-            return self.apply_built_in(name, cells, output);
+            return self.apply_built_in(name, heads, cells, output);
         }
         self.read_body(found, cells)
     }

@@ -1,4 +1,5 @@
 // The built-ins, within the scan of their `;`, which is charged.
+use crate::index;
 use crate::layout;
 use crate::lookup;
 use crate::operands;
@@ -16,17 +17,23 @@ ghost use Prim.Native.Nat.{ℕ, _+_, _≤_, _<_};
 ghost use lib.ListN.{length};
 ghost use Rattle.language.specs.Signs.{cellsLimit};
 ghost use Rattle.language.specs.Expansion.{lent};
-ghost use Rattle.machine.specs.Machine.{Marked, Resulting, leaves, release, releaseTo, released, defined, defineIn, def, refuseName, val, updateIn, update, choose, lock, perform, supplied, applyBuiltIn};
+ghost use Rattle.machine.specs.Machine.{Marked, Resulting, leaves, leavesIndexed, unindexed, release, releaseTo, released, defined, defineIn, def, refuseName, val, updateIn, update, choose, lock, perform, supplied, applyBuiltIn};
 
 impl Run {
     // 15 for a name that is none of theirs.
-    pub(crate) fn apply_built_in(self, name: usize, cells: &mut [u32], output: &mut [u8]) -> Stepped
+    pub(crate) fn apply_built_in(
+        self,
+        name: usize,
+        heads: &mut [u32; 64],
+        cells: &mut [u32],
+        output: &mut [u8],
+    ) -> Stepped
         requires { ⌜ (Marked (length (now cells)) self) × (self .counts .written ≤ length (now output)) × (name ≤ cellsLimit + 4) ⌝ }
-        ensures { λ r. ⌜ leaves r (lent (now (cells .exit)) (now (output .exit))) ≡ applyBuiltIn self name (lent (now (cells .entry)) (now (output .entry))) ⌝ }
+        ensures { λ r. ⌜ leavesIndexed r (lent (now (cells .exit)) (now (output .exit))) (now (heads .exit)) ≡ applyBuiltIn self name (now (heads .entry)) (lent (now (cells .entry)) (now (output .entry))) ⌝ }
     {
         let named = operands::built_in(cells, name);
         match named {
-            Named::Known(built_in) => self.supplied(built_in, name, cells, output),
+            Named::Known(built_in) => self.supplied(built_in, name, heads, cells, output),
             Named::Unknown => self.ends_with(outcomes::NOT_DEFINED),
         }
     }
@@ -36,34 +43,36 @@ impl Run {
         self,
         built_in: BuiltIn,
         name: usize,
+        heads: &mut [u32; 64],
         cells: &mut [u32],
         output: &mut [u8],
     ) -> Stepped
         requires { ⌜ (Marked (length (now cells)) self) × (self .counts .written ≤ length (now output)) × (name ≤ cellsLimit + 4) ⌝ }
-        ensures { λ r. ⌜ leaves r (lent (now (cells .exit)) (now (output .exit))) ≡ supplied self built_in name (lent (now (cells .entry)) (now (output .entry))) ⌝ }
+        ensures { λ r. ⌜ leavesIndexed r (lent (now (cells .exit)) (now (output .exit))) (now (heads .exit)) ≡ supplied self built_in name (now (heads .entry)) (lent (now (cells .entry)) (now (output .entry))) ⌝ }
     {
         if lookup::argument(cells, name, built_in.needs()) == Run::NOWHERE {
             return self.ends_with(outcomes::NOT_SUPPLIED);
         }
-        self.perform(built_in, name, cells, output)
+        self.perform(built_in, name, heads, cells, output)
     }
 
     fn perform(
         self,
         built_in: BuiltIn,
         name: usize,
+        heads: &mut [u32; 64],
         cells: &mut [u32],
         output: &mut [u8],
     ) -> Stepped
         requires { ⌜ (Marked (length (now cells)) self) × (self .counts .written ≤ length (now output)) × (name ≤ cellsLimit + 4) ⌝ }
-        ensures { λ r. ⌜ leaves r (lent (now (cells .exit)) (now (output .exit))) ≡ perform self built_in name (lent (now (cells .entry)) (now (output .entry))) ⌝ }
+        ensures { λ r. ⌜ leavesIndexed r (lent (now (cells .exit)) (now (output .exit))) (now (heads .exit)) ≡ perform self built_in name (now (heads .entry)) (lent (now (cells .entry)) (now (output .entry))) ⌝ }
     {
         let first = lookup::argument(cells, name, 1);
         let second = lookup::argument(cells, name, 2);
-        match built_in {
-            BuiltIn::Def => self.def(first, second, cells),
-            BuiltIn::Val => self.val(first, cells, output),
-            BuiltIn::Update => self.update(first, second, cells),
+        let st = match built_in {
+            BuiltIn::Def => return self.def(first, second, heads, cells),
+            BuiltIn::Val => self.val(first, heads, cells, output),
+            BuiltIn::Update => self.update(first, second, heads, cells),
             BuiltIn::Arithmetic(operation) => {
                 let answer = operands::calculate(operation, cells, first, second);
                 self.give_answer(answer, cells, output)
@@ -71,8 +80,22 @@ impl Run {
             BuiltIn::Seq => self.give_count(operands::compare(cells, first, second), cells, output),
             BuiltIn::Size => self.give_count(memory::read(cells, first), cells, output),
             BuiltIn::If => self.choose(name, cells, output),
-            BuiltIn::Lock => self.lock(first, cells),
-        }
+            BuiltIn::Lock => self.lock(first, heads, cells),
+        };
+        self.unindex(st, heads, cells);
+        st
+    }
+
+    // Where the call has ended, what was defined since its `$` is taken out of the index.
+    fn unindex(self, st: Stepped, heads: &mut [u32; 64], cells: &[u32])
+        requires { ⌜ (length (now cells) ≤ cellsLimit) × (self .right ≤ cellsLimit) × (st .run .right ≤ cellsLimit) ⌝ }
+        ensures { λ _. ⌜ ((o : List ℕ) → leavesIndexed st (lent (now (cells .entry)) o) (now (heads .exit)) ≡ unindexed self (now (heads .entry)) (leaves st (lent (now (cells .entry)) o))) ⌝ }
+    {
+        let answer = st.answer;
+        let Answer::GoesOn = answer else {
+            return;
+        };
+        index::remove(heads, cells, self.right, st.run.right);
     }
 
     // The call ends: its list goes, with what was defined since its `$`; `kept` cells stand in place of the list.
@@ -125,9 +148,9 @@ impl Run {
     }
 
     // DEF: 33 for an empty name, "before anything is defined"; else the list is exchanged for the definition.
-    fn def(self, name: usize, value: usize, cells: &mut [u32]) -> Stepped
+    fn def(self, name: usize, value: usize, heads: &mut [u32; 64], cells: &mut [u32]) -> Stepped
         requires { ⌜ (Marked (length (now cells)) self) × (name ≤ 8589934592) × (value ≤ 8589934592) ⌝ }
-        ensures { λ r. ⌜ ((o : List ℕ) → leaves r (lent (now (cells .exit)) o) ≡ def self name value (lent (now (cells .entry)) o)) ⌝ }
+        ensures { λ r. ⌜ ((o : List ℕ) → leavesIndexed r (lent (now (cells .exit)) o) (now (heads .exit)) ≡ def self name value (now (heads .entry)) (lent (now (cells .entry)) o)) ⌝ }
     {
         let letters = memory::read(cells, name) as usize;
         if letters == 0 {
@@ -135,25 +158,27 @@ impl Run {
         }
         let bytes = memory::read(cells, value) as usize;
         let st = self.release(0, cells);
+        self.unindex(st, heads, cells);
         let answer = st.answer;
         let Answer::GoesOn = answer else {
             return st;
         };
         let run = st.run;
-        run.define_in(name, value, letters, bytes, cells)
+        run.define_in(name, value, letters, bytes, heads, cells)
     }
 
-    // The value, then the name, to the cells before `right`, and the head before them.
+    // The value, then the name, to the cells before `right`, and the head before them; then it comes into the index.
     fn define_in(
         self,
         name: usize,
         value: usize,
         letters: usize,
         bytes: usize,
+        heads: &mut [u32; 64],
         cells: &mut [u32],
     ) -> Stepped
-        requires { ⌜ (name ≤ 8589934592) × (value ≤ 8589934592) × (letters ≤ 4294967296) × (bytes ≤ 4294967296) × (self .calls .left ≤ 4294967296) × (self .right ≤ cellsLimit) × (self .charge ≤ 4294967296) ⌝ }
-        ensures { λ r. ⌜ ((o : List ℕ) → leaves r (lent (now (cells .exit)) o) ≡ defineIn self name value letters bytes (lent (now (cells .entry)) o)) ⌝ }
+        requires { ⌜ (length (now cells) ≤ cellsLimit) × (name ≤ 8589934592) × (value ≤ 8589934592) × (letters ≤ 4294967296) × (bytes ≤ 4294967296) × (self .calls .left ≤ 4294967296) × (self .right ≤ cellsLimit) × (self .charge ≤ 4294967296) ⌝ }
+        ensures { λ r. ⌜ ((o : List ℕ) → leavesIndexed r (lent (now (cells .exit)) o) (now (heads .exit)) ≡ defineIn self name value letters bytes (now (heads .entry)) (lent (now (cells .entry)) o)) ⌝ }
     {
         let size = layout::HEAD_SIZE + letters + bytes;
         let right = self.right;
@@ -166,6 +191,7 @@ impl Run {
         memory::move_block(cells, value + 1, right - bytes, bytes);
         memory::move_block(cells, name + 1, right - (letters + bytes), letters);
         layout::write_head(cells, right - size, letters, bytes);
+        index::insert(heads, cells, right - size);
         self.defined(size).goes_on()
     }
 
@@ -181,11 +207,11 @@ impl Run {
     }
 
     // VAL gives the value unscanned.
-    fn val(self, name: usize, cells: &mut [u32], output: &mut [u8]) -> Stepped
+    fn val(self, name: usize, heads: &[u32; 64], cells: &mut [u32], output: &mut [u8]) -> Stepped
         requires { ⌜ (Marked (length (now cells)) self) × (self .counts .written ≤ length (now output)) × (name ≤ 8589934592) ⌝ }
-        ensures { λ r. ⌜ leaves r (lent (now (cells .exit)) (now (output .exit))) ≡ val self name (lent (now (cells .entry)) (now (output .entry))) ⌝ }
+        ensures { λ r. ⌜ leaves r (lent (now (cells .exit)) (now (output .exit))) ≡ val self name (now (heads .entry)) (lent (now (cells .entry)) (now (output .entry))) ⌝ }
     {
-        let found = lookup::newest(cells, self.right, self.source.list, name);
+        let found = lookup::newest(cells, heads, name);
         if found == Run::NOWHERE {
             return self.refuse_name(name, cells);
         }
@@ -196,7 +222,7 @@ impl Run {
 
     // "15, 19": a name that no definition has.
     fn refuse_name(self, name: usize, cells: &[u32]) -> Stepped
-        requires { ⌜ name ≤ 8589934592 ⌝ }
+        requires { ⌜ (length (now cells) ≤ cellsLimit) × (name ≤ 8589934592) ⌝ }
         ensures { λ r. ⌜ ((o : List ℕ) → leaves r (lent (now (cells .entry)) o) ≡ refuseName self name (lent (now (cells .entry)) o)) ⌝ }
     {
         let named = operands::built_in(cells, name);
@@ -207,11 +233,11 @@ impl Run {
     }
 
     // UPDATE changes the value where the definition stands: "15 for the name given, 19", 36 if it is locked, "20, 21".
-    fn update(self, name: usize, value: usize, cells: &mut [u32]) -> Stepped
+    fn update(self, name: usize, value: usize, heads: &[u32; 64], cells: &mut [u32]) -> Stepped
         requires { ⌜ (Marked (length (now cells)) self) × (name ≤ 8589934592) × (value ≤ 8589934592) ⌝ }
-        ensures { λ r. ⌜ ((o : List ℕ) → leaves r (lent (now (cells .exit)) o) ≡ update self name value (lent (now (cells .entry)) o)) ⌝ }
+        ensures { λ r. ⌜ ((o : List ℕ) → leaves r (lent (now (cells .exit)) o) ≡ update self name value (now (heads .entry)) (lent (now (cells .entry)) o)) ⌝ }
     {
-        let found = lookup::newest(cells, self.right, self.source.list, name);
+        let found = lookup::newest(cells, heads, name);
         if found == Run::NOWHERE {
             return self.refuse_name(name, cells);
         }
@@ -254,11 +280,11 @@ impl Run {
     }
 
     // LOCK locks the newest definition of the name where it stands.
-    fn lock(self, name: usize, cells: &mut [u32]) -> Stepped
+    fn lock(self, name: usize, heads: &[u32; 64], cells: &mut [u32]) -> Stepped
         requires { ⌜ (Marked (length (now cells)) self) × (name ≤ 8589934592) ⌝ }
-        ensures { λ r. ⌜ ((o : List ℕ) → leaves r (lent (now (cells .exit)) o) ≡ lock self name (lent (now (cells .entry)) o)) ⌝ }
+        ensures { λ r. ⌜ ((o : List ℕ) → leaves r (lent (now (cells .exit)) o) ≡ lock self name (now (heads .entry)) (lent (now (cells .entry)) o)) ⌝ }
     {
-        let found = lookup::newest(cells, self.right, self.source.list, name);
+        let found = lookup::newest(cells, heads, name);
         if found == Run::NOWHERE {
             return self.refuse_name(name, cells);
         }

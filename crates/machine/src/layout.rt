@@ -1,20 +1,20 @@
 // How a run lies in its cells: the one place that knows the offsets.
 //
-//   a definition   +0 lock   +1 name length   +2 defined length   +3 length now; then the name, and the value in the room of
-//                  the defined length
+//   a definition   +0 lock   +1 name length   +2 defined length   +3 length now   +4 the next older definition of its group;
+//                  then the name, and the value in the room of the defined length
 //   an open call   +0 `right` at its `$`   +1 the list being read there   +2 hand and call around it   +3 its arguments
 //   a list         +0 as in its call   +1 its size and the list to return to   +2 body and offset to return to   +3 its arguments
 //
-// An argument is its length and its bytes. The mark ends the arguments of a list.
+// An argument is its length and its bytes. The mark ends the arguments of a list, and a group.
 ghost use mathlib.Core.Path.{_≡_};
 ghost use Prim.Native.Nat.{_≤_};
-ghost use Rattle.machine.specs.Walks.{packed, high, low, cell, isLocked, withLock, nameLength, room, valueLength, withValueLength, withHead, rightBefore, withRightBefore, listLink, returnLink, withLinks};
+ghost use Rattle.machine.specs.Walks.{packed, high, low, cell, isLocked, withLock, nameLength, room, valueLength, withValueLength, groupLink, withGroupLink, withHead, rightBefore, withRightBefore, listLink, returnLink, withLinks};
 
-// Ends a list, and is no length.
+// Ends a list, and a group; it is no length and no position.
 pub(crate) const MARK: u32 = 65536;
 
 // The cells of a definition beside its name and the room of its value.
-pub(crate) const HEAD_SIZE: usize = 4;
+pub(crate) const HEAD_SIZE: usize = 5;
 
 // The cells of an open call with an empty name.
 pub(crate) const OPEN_SIZE: usize = 4;
@@ -30,6 +30,8 @@ const NAME_LENGTH: usize = 1;
 const ROOM: usize = 2;
 
 const VALUE_LENGTH: usize = 3;
+
+const GROUP_LINK: usize = 4;
 
 const LIST_LINK: usize = 1;
 
@@ -59,6 +61,13 @@ pub(crate) fn cell(number: usize) -> u32
     ensures { λ r. ⌜ r ≡ cell number ⌝ }
 {
     (number % 4294967296) as u32
+}
+
+// Where a definition stands, as a cell or a head has it.
+pub(crate) fn position(cell: u32) -> usize
+    ensures { λ r. ⌜ r ≡ cell ⌝ }
+{
+    cell as usize
 }
 
 // Of a definition: whether it is locked.
@@ -102,6 +111,21 @@ pub(crate) fn write_value_length(cells: &mut [u32], definition: usize, count: u3
     memory::write(cells, definition + VALUE_LENGTH, count);
 }
 
+pub(crate) fn group_link(cells: &[u32], definition: usize) -> u32
+    requires { ⌜ definition ≤ 8589934592 ⌝ }
+    ensures { λ r. ⌜ r ≡ groupLink (now (cells .entry)) definition ⌝ }
+{
+    memory::read(cells, definition + GROUP_LINK)
+}
+
+pub(crate) fn write_group_link(cells: &mut [u32], definition: usize, link: u32)
+    requires { ⌜ definition ≤ 8589934592 ⌝ }
+    ensures { λ _. ⌜ now (cells .exit) ≡ withGroupLink (now (cells .entry)) definition link ⌝ }
+{
+    memory::write(cells, definition + GROUP_LINK, link);
+}
+
+// All but the link, which the index writes.
 pub(crate) fn write_head(cells: &mut [u32], definition: usize, letters: usize, bytes: usize)
     requires { ⌜ definition ≤ 8589934592 ⌝ }
     ensures { λ _. ⌜ now (cells .exit) ≡ withHead (now (cells .entry)) definition letters bytes ⌝ }

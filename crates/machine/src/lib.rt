@@ -2,6 +2,7 @@
 mod apply;
 mod builtins;
 mod give;
+pub mod index;
 mod layout;
 mod lookup;
 mod operands;
@@ -22,27 +23,28 @@ ghost use lib.ListN.{length};
 ghost use Rattle.language.specs.Expansion.{lent};
 ghost use Rattle.language.specs.Origins.{numbers, tooShort};
 ghost use Rattle.machine.specs.declared.run.Answer.the-variants.{GoesOn};
-ghost use Rattle.machine.specs.Machine.{InRange, lastScan, leaves, goes, steps};
+ghost use Rattle.machine.specs.Machine.{InRange, lastScan, leavesIndexed, keeping, goes, steps};
 ghost use Rattle.machine.specs.Moving.{portion, Advances, Moves};
 ghost use Rattle.machine.specs.Origins.{Noted, Notes, atOnce};
 
-// At most so many scans from a standing, in the memory that holds it. A standing that cannot be is refused untouched. Where both
+// At most so many scans from a standing, in the memory that holds it and with the heads of the index. A standing that cannot be is refused untouched. Where both
 // runs of numbers are as long as the output, they hold of each byte written where it came from.
 pub fn go_on(
     run: Run,
     kinds: &[u8; 256],
     text: &[u8],
+    heads: &mut [u32; 64],
     cells: &mut [u32],
     output: &mut [u8],
     origins: &mut [u32],
     rules: &mut [u32],
     allowance: u64,
 ) -> Stepped
-    ensures { λ r. ⌜ Moves (now (kinds .entry)) (now (text .entry)) allowance run (lent (now (cells .entry)) (now (output .entry))) r (lent (now (cells .exit)) (now (output .exit))) × Notes (now (kinds .entry)) (now (text .entry)) allowance run (lent (now (cells .entry)) (now (output .entry))) (numbers (now (origins .entry)) (now (rules .entry))) (numbers (now (origins .exit)) (now (rules .exit))) ⌝ }
+    ensures { λ r. ⌜ Moves (now (kinds .entry)) (now (text .entry)) allowance run (now (heads .entry)) (lent (now (cells .entry)) (now (output .entry))) r (now (heads .exit)) (lent (now (cells .exit)) (now (output .exit))) × Notes (now (kinds .entry)) (now (text .entry)) allowance run (now (heads .entry)) (lent (now (cells .entry)) (now (output .entry))) (numbers (now (origins .entry)) (now (rules .entry))) (numbers (now (origins .exit)) (now (rules .exit))) ⌝ }
 {
     if run.is_in_range(cells.len(), output.len()) {
         let due = portion(allowance, run.counts.scans);
-        return advance_noting(run, due, kinds, text, cells, output, origins, rules);
+        return advance_noting(run, due, kinds, text, heads, cells, output, origins, rules);
     }
     Stepped {
         run,
@@ -65,13 +67,14 @@ fn advance_noting(
     due: u64,
     kinds: &[u8; 256],
     text: &[u8],
+    heads: &mut [u32; 64],
     cells: &mut [u32],
     output: &mut [u8],
     origins: &mut [u32],
     rules: &mut [u32],
 ) -> Stepped
     requires { ⌜ (InRange (length (now cells)) (length (now output)) from) × (from .counts .scans + due ≤ lastScan) ⌝ }
-    ensures { λ r. ⌜ Advances (now (kinds .entry)) (now (text .entry)) due from (lent (now (cells .entry)) (now (output .entry))) r (lent (now (cells .exit)) (now (output .exit))) × Noted (now (kinds .entry)) (now (text .entry)) due from (lent (now (cells .entry)) (now (output .entry))) (numbers (now (origins .entry)) (now (rules .entry))) (numbers (now (origins .exit)) (now (rules .exit))) × (tooShort (numbers (now (origins .entry)) (now (rules .entry))) (length (now (output .entry))) ≡ true → numbers (now (origins .exit)) (now (rules .exit)) ≡ numbers (now (origins .entry)) (now (rules .entry))) ⌝ }
+    ensures { λ r. ⌜ Advances (now (kinds .entry)) (now (text .entry)) due from (now (heads .entry)) (lent (now (cells .entry)) (now (output .entry))) r (now (heads .exit)) (lent (now (cells .exit)) (now (output .exit))) × Noted (now (kinds .entry)) (now (text .entry)) due from (now (heads .entry)) (lent (now (cells .entry)) (now (output .entry))) (numbers (now (origins .entry)) (now (rules .entry))) (numbers (now (origins .exit)) (now (rules .exit))) × (tooShort (numbers (now (origins .entry)) (now (rules .entry))) (length (now (output .entry))) ≡ true → numbers (now (origins .exit)) (now (rules .exit)) ≡ numbers (now (origins .entry)) (now (rules .entry))) ⌝ }
 {
     let until = from.counts.scans + due;
     let silent = rules::too_short(origins, rules, output);
@@ -79,7 +82,7 @@ fn advance_noting(
     while run.counts.scans < until {
         let rule = run.rule(kinds, cells);
         let at_once = at_once(silent, until - run.counts.scans);
-        let st = advance(run, at_once, kinds, text, cells, output);
+        let st = advance(run, at_once, kinds, text, heads, cells, output);
         let answer = st.answer;
         let Answer::GoesOn = answer else {
             return st;
@@ -103,16 +106,17 @@ fn advance(
     due: u64,
     kinds: &[u8; 256],
     text: &[u8],
+    heads: &mut [u32; 64],
     cells: &mut [u32],
     output: &mut [u8],
 ) -> Stepped
     requires { ⌜ (InRange (length (now cells)) (length (now output)) from) × (from .counts .scans + due ≤ lastScan) ⌝ }
-    ensures { λ r. ⌜ Advances (now (kinds .entry)) (now (text .entry)) due from (lent (now (cells .entry)) (now (output .entry))) r (lent (now (cells .exit)) (now (output .exit))) × (leaves r (lent (now (cells .exit)) (now (output .exit))) ≡ steps due (now (kinds .entry)) (now (text .entry)) (goes from (lent (now (cells .entry)) (now (output .entry))))) × (r .answer ≡ GoesOn → r .run .counts .scans ≡ from .counts .scans + due) ⌝ }
+    ensures { λ r. ⌜ Advances (now (kinds .entry)) (now (text .entry)) due from (now (heads .entry)) (lent (now (cells .entry)) (now (output .entry))) r (now (heads .exit)) (lent (now (cells .exit)) (now (output .exit))) × (leavesIndexed r (lent (now (cells .exit)) (now (output .exit))) (now (heads .exit)) ≡ steps due (now (kinds .entry)) (now (text .entry)) (keeping (now (heads .entry)) (goes from (lent (now (cells .entry)) (now (output .entry)))))) × (r .answer ≡ GoesOn → r .run .counts .scans ≡ from .counts .scans + due) ⌝ }
 {
     let until = from.counts.scans + due;
     let mut run = from;
     while run.counts.scans < until {
-        let st = run.step(kinds, text, cells, output);
+        let st = run.step(kinds, text, heads, cells, output);
         let answer = st.answer;
         let Answer::GoesOn = answer else {
             return st;

@@ -1,11 +1,12 @@
 // Walks over the cells. Each makes at most so many turns, and answers NOWHERE where what it looks for is not there.
+use crate::index;
 use crate::layout;
 use crate::run::Run;
 ghost use mathlib.Core.Path.{_≡_};
 ghost use Prim.Native.Nat.{_+_, _≤_};
 ghost use lib.ListN.{length};
 ghost use Rattle.language.specs.Signs.{cellsLimit};
-ghost use Rattle.machine.specs.Walks.{nowhere, argument, isOne, chosen, size, isNamed, nextPosition, nextList, newest, definitions, isRead};
+ghost use Rattle.machine.specs.Walks.{nowhere, argument, isOne, chosen, size, isNamed, newest, definitions, isRead};
 
 // The length cell of an argument of a list, counted from the one at `from`.
 pub(crate) fn argument(cells: &[u32], from: usize, index: usize) -> usize
@@ -61,46 +62,33 @@ fn is_one(cells: &[u32], argument: usize) -> bool
     memory::same_bytes(cells, argument + 1, count, b"1")
 }
 
-// Where a walk over the right stack is: at an item, with the next list from there on.
-pub struct Place {
-    pub position: usize,
-    pub list: usize,
-}
-
-// The newest definition with the name at a length cell.
-pub(crate) fn newest(cells: &[u32], right: usize, list: usize, name: usize) -> usize
-    requires { ⌜ (length (now cells) ≤ cellsLimit) × (right ≤ cellsLimit) × (name ≤ 8589934592) ⌝ }
-    ensures { λ r. ⌜ r ≡ newest (now (cells .entry)) right list name ⌝ }
+// The newest definition with the name at a length cell: the first that has it in its group.
+pub(crate) fn newest(cells: &[u32], heads: &[u32; 64], name: usize) -> usize
+    requires { ⌜ (length (now cells) ≤ cellsLimit) × (name ≤ 8589934592) ⌝ }
+    ensures { λ r. ⌜ r ≡ newest (now (cells .entry)) (now (heads .entry)) name ⌝ }
 {
     let count = memory::read(cells, name) as usize;
+    let group = index::group(cells, name + 1, count);
     let mut turns = cells.len();
-    let mut place = Place {
-        position: right,
-        list,
-    };
+    let mut position = layout::position(heads[group]);
     while turns > 0 {
-        let position = place.position;
         if position >= cells.len() {
             return Run::NOWHERE;
         }
-        if is_named(cells, place, name, count) {
+        if is_named(cells, position, name, count) {
             return position;
         }
-        place = next_item(cells, place);
+        position = layout::group_link(cells, position) as usize;
         turns -= 1;
     }
     Run::NOWHERE
 }
 
-// Whether a definition stands here and has this name.
-fn is_named(cells: &[u32], place: Place, name: usize, count: usize) -> bool
-    requires { ⌜ (place .position ≤ cellsLimit) × (name ≤ 8589934592) ⌝ }
-    ensures { λ r. ⌜ r ≡ isNamed (now (cells .entry)) (place .position) (place .list) name count ⌝ }
+// Whether the definition at a position has the name at a length cell.
+fn is_named(cells: &[u32], position: usize, name: usize, count: usize) -> bool
+    requires { ⌜ (position ≤ cellsLimit) × (name ≤ 8589934592) ⌝ }
+    ensures { λ r. ⌜ r ≡ isNamed (now (cells .entry)) position name count ⌝ }
 {
-    let position = place.position;
-    if position == place.list {
-        return false;
-    }
     let letters = layout::name_length(cells, position) as usize;
     if letters != count {
         return false;
@@ -108,29 +96,10 @@ fn is_named(cells: &[u32], place: Place, name: usize, count: usize) -> bool
     memory::same_blocks(cells, position + layout::HEAD_SIZE, name + 1, count)
 }
 
-// The item behind this one.
-fn next_item(cells: &[u32], place: Place) -> Place
-    requires { ⌜ place .position ≤ cellsLimit ⌝ }
-    ensures { λ r. ⌜ (r .position ≡ nextPosition (now (cells .entry)) (place .position) (place .list)) × (r .list ≡ nextList (now (cells .entry)) (place .position) (place .list)) ⌝ }
-{
-    let position = place.position;
-    if position == place.list {
-        let links = layout::list_link(cells, position);
-        return Place {
-            position: position + layout::high(links) + layout::LIST_OVERHEAD,
-            list: layout::low(links),
-        };
-    }
-    Place {
-        position: position + size(cells, position),
-        list: place.list,
-    }
-}
-
 // The cells of a definition.
-fn size(cells: &[u32], definition: usize) -> usize
+pub(crate) fn size(cells: &[u32], definition: usize) -> usize
     requires { ⌜ definition ≤ 4294967296 ⌝ }
-    ensures { λ r. ⌜ (r ≡ size (now (cells .entry)) definition) × (r ≤ 8589934594) ⌝ }
+    ensures { λ r. ⌜ (r ≡ size (now (cells .entry)) definition) × (r ≤ 8589934595) ⌝ }
 {
     let letters = layout::name_length(cells, definition) as usize;
     layout::HEAD_SIZE + letters + layout::room(cells, definition) as usize

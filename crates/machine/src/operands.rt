@@ -1,4 +1,5 @@
 // The names of the built-ins, and what some come to on their arguments.
+use crate::index;
 use decimal::operations::Answer;
 use decimal::operations::Operation;
 use decimal::reader::Operand;
@@ -6,10 +7,13 @@ use decimal::reader::Reader;
 use language::built_ins::BuiltIn;
 ghost use mathlib.Core.Path.{_≡_};
 ghost use Prim.Native.Nat.{_≤_};
-ghost use lib.ListN.{drop};
+ghost use mathlib.Core.List.{[], _∷_};
+ghost use lib.ListN.{length};
 ghost use Rattle.decimal.specs.Arithmetic.{asResult};
 ghost use Rattle.decimal.specs.Answers.{resultIn};
-ghost use Rattle.language.specs.BuiltIns.{builtIns};
+ghost use Rattle.language.specs.Signs.{cellsLimit};
+ghost use Rattle.language.specs.Groups.{ofGroup};
+ghost use Rattle.language.specs.BuiltIns.{named, builtIns};
 ghost use Rattle.machine.specs.Walks.{builtInNamed, namedAmong, compare, operandAt, calculate};
 
 // The built-in that has a name, or that none has it.
@@ -18,67 +22,72 @@ pub enum Named {
     Unknown,
 }
 
-// Which built-in has the name at a length cell.
+// Which built-in has the name at a length cell: those of its group are looked at, and no others.
 pub(crate) fn built_in(cells: &[u32], name: usize) -> Named
-    requires { ⌜ name ≤ 8589934592 ⌝ }
+    requires { ⌜ (length (now cells) ≤ cellsLimit) × (name ≤ 8589934592) ⌝ }
     ensures { λ r. ⌜ r ≡ builtInNamed (now (cells .entry)) name ⌝ }
+{
+    let count = memory::read(cells, name) as usize;
+    let group = index::group(cells, name + 1, count);
+    match group {
+        3 => known(cells, name, b"UPDATE", BuiltIn::Update),
+        15 => of_group_15(cells, name),
+        35 => known(cells, name, b"VAL", BuiltIn::Val),
+        36 => known(
+            cells,
+            name,
+            b"Rem",
+            BuiltIn::Arithmetic(Operation::Remainder),
+        ),
+        41 => of_group_41(cells, name),
+        42 => known(cells, name, b"*", BuiltIn::Arithmetic(Operation::Product)),
+        43 => known(cells, name, b"+", BuiltIn::Arithmetic(Operation::Sum)),
+        45 => known(
+            cells,
+            name,
+            b"-",
+            BuiltIn::Arithmetic(Operation::Difference),
+        ),
+        59 => known(cells, name, b"SIZE", BuiltIn::Size),
+        _ => Named::Unknown,
+    }
+}
+
+// The built-in, where the name at a length cell is its own.
+fn known(cells: &[u32], name: usize, own: &[u8], built_in: BuiltIn) -> Named
+    requires { ⌜ name ≤ 8589934592 ⌝ }
+    ensures { λ r. ⌜ r ≡ namedAmong (now (cells .entry)) name (named (now (own .entry)) built_in ∷ []) ⌝ }
+{
+    let count = memory::read(cells, name) as usize;
+    if memory::same_bytes(cells, name + 1, count, own) {
+        return Named::Known(built_in);
+    }
+    Named::Unknown
+}
+
+fn of_group_15(cells: &[u32], name: usize) -> Named
+    requires { ⌜ name ≤ 8589934592 ⌝ }
+    ensures { λ r. ⌜ r ≡ namedAmong (now (cells .entry)) name (ofGroup 15 builtIns) ⌝ }
 {
     let count = memory::read(cells, name) as usize;
     if memory::same_bytes(cells, name + 1, count, b"DEF") {
         return Named::Known(BuiltIn::Def);
     }
-    if memory::same_bytes(cells, name + 1, count, b"VAL") {
-        return Named::Known(BuiltIn::Val);
-    }
-    if memory::same_bytes(cells, name + 1, count, b"UPDATE") {
-        return Named::Known(BuiltIn::Update);
-    }
-    arithmetic(cells, name)
+    known(cells, name, b"IF", BuiltIn::If)
 }
 
-// Which of the arithmetic.
-fn arithmetic(cells: &[u32], name: usize) -> Named
+fn of_group_41(cells: &[u32], name: usize) -> Named
     requires { ⌜ name ≤ 8589934592 ⌝ }
-    ensures { λ r. ⌜ r ≡ namedAmong (now (cells .entry)) name (drop 3 builtIns) ⌝ }
+    ensures { λ r. ⌜ r ≡ namedAmong (now (cells .entry)) name (ofGroup 41 builtIns) ⌝ }
 {
     let count = memory::read(cells, name) as usize;
-    if memory::same_bytes(cells, name + 1, count, b"+") {
-        return Named::Known(BuiltIn::Arithmetic(Operation::Sum));
-    }
-    if memory::same_bytes(cells, name + 1, count, b"-") {
-        return Named::Known(BuiltIn::Arithmetic(Operation::Difference));
-    }
-    if memory::same_bytes(cells, name + 1, count, b"*") {
-        return Named::Known(BuiltIn::Arithmetic(Operation::Product));
-    }
     if memory::same_bytes(cells, name + 1, count, b"Quot") {
         return Named::Known(BuiltIn::Arithmetic(Operation::Quotient));
     }
-    if memory::same_bytes(cells, name + 1, count, b"Rem") {
-        return Named::Known(BuiltIn::Arithmetic(Operation::Remainder));
-    }
-    word(cells, name)
-}
-
-// Which of the words from M6, and LOCK.
-fn word(cells: &[u32], name: usize) -> Named
-    requires { ⌜ name ≤ 8589934592 ⌝ }
-    ensures { λ r. ⌜ r ≡ namedAmong (now (cells .entry)) name (drop 8 builtIns) ⌝ }
-{
-    let count = memory::read(cells, name) as usize;
     if memory::same_bytes(cells, name + 1, count, b"SEQ") {
         return Named::Known(BuiltIn::Seq);
     }
-    if memory::same_bytes(cells, name + 1, count, b"SIZE") {
-        return Named::Known(BuiltIn::Size);
-    }
-    if memory::same_bytes(cells, name + 1, count, b"IF") {
-        return Named::Known(BuiltIn::If);
-    }
-    if memory::same_bytes(cells, name + 1, count, b"LOCK") {
-        return Named::Known(BuiltIn::Lock);
-    }
-    Named::Unknown
+    known(cells, name, b"LOCK", BuiltIn::Lock)
 }
 
 // SEQ: 1 where two arguments are the same, their lengths and their bytes, else 0.

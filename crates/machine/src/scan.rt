@@ -8,7 +8,7 @@ ghost use mathlib.Core.List.{List};
 ghost use Rattle.language.specs.Expansion.{lent};
 ghost use Rattle.machine.specs.declared.run.Answer.the-variants.{GoesOn};
 ghost use Rattle.machine.specs.Walks.{nowhere};
-ghost use Rattle.machine.specs.Machine.{Sound, Ready, lastScan, leaves, withQuotes, quotesAfter, scanQuoted, scanSign, scanByte, nextByte, passed, endSource, step};
+ghost use Rattle.machine.specs.Machine.{Sound, Ready, lastScan, leaves, leavesIndexed, withQuotes, quotesAfter, scanQuoted, scanSign, scanByte, nextByte, passed, endSource, step};
 
 impl Run {
     // One scan takes the standing of the run and gives the next.
@@ -16,22 +16,23 @@ impl Run {
         self,
         kinds: &[u8; 256],
         text: &[u8],
+        heads: &mut [u32; 64],
         cells: &mut [u32],
         output: &mut [u8],
     ) -> Stepped
         requires { ⌜ (Ready (length (now cells)) self) × (self .counts .scans < lastScan) × (self .counts .written ≤ length (now output)) ⌝ }
-        ensures { λ r. ⌜ leaves r (lent (now (cells .exit)) (now (output .exit))) ≡ step self (now (kinds .entry)) (now (text .entry)) (lent (now (cells .entry)) (now (output .entry))) ⌝ }
+        ensures { λ r. ⌜ leavesIndexed r (lent (now (cells .exit)) (now (output .exit))) (now (heads .exit)) ≡ step self (now (kinds .entry)) (now (text .entry)) (now (heads .entry)) (lent (now (cells .entry)) (now (output .entry))) ⌝ }
     {
         let mut run = self;
         let scans = self.counts.scans + 1;
         run.counts.scans = scans;
         let next = run.next_byte(text, cells);
         if next == Run::NOWHERE {
-            return run.end_source(cells);
+            return run.end_source(heads, cells);
         }
         let byte = (next % 256) as u8;
         run.passed()
-            .scan_byte(kind(kinds, byte), byte, cells, output)
+            .scan_byte(kind(kinds, byte), byte, heads, cells, output)
     }
 
     // The next byte of the innermost body, else of the text, or NOWHERE at its end.
@@ -66,35 +67,49 @@ impl Run {
     }
 
     // The end of the innermost body, else of the text.
-    fn end_source(self, cells: &mut [u32]) -> Stepped
+    fn end_source(self, heads: &mut [u32; 64], cells: &mut [u32]) -> Stepped
         requires { ⌜ Sound (length (now cells)) self ⌝ }
-        ensures { λ r. ⌜ ((o : List ℕ) → leaves r (lent (now (cells .exit)) o) ≡ endSource self (lent (now (cells .entry)) o)) ⌝ }
+        ensures { λ r. ⌜ ((o : List ℕ) → leavesIndexed r (lent (now (cells .exit)) o) (now (heads .exit)) ≡ endSource self (now (heads .entry)) (lent (now (cells .entry)) o)) ⌝ }
     {
         if self.source.list == Run::NOWHERE {
             return self.end_text();
         }
-        self.end_body(cells)
+        self.end_body(heads, cells)
     }
 
     // Inside quotes only quotes are recognised.
-    fn scan_byte(self, kind: u8, byte: u8, cells: &mut [u32], output: &mut [u8]) -> Stepped
+    fn scan_byte(
+        self,
+        kind: u8,
+        byte: u8,
+        heads: &mut [u32; 64],
+        cells: &mut [u32],
+        output: &mut [u8],
+    ) -> Stepped
         requires { ⌜ (Sound (length (now cells)) self) × (self .counts .written ≤ length (now output)) ⌝ }
-        ensures { λ r. ⌜ leaves r (lent (now (cells .exit)) (now (output .exit))) ≡ scanByte self kind byte (lent (now (cells .entry)) (now (output .entry))) ⌝ }
+        ensures { λ r. ⌜ leavesIndexed r (lent (now (cells .exit)) (now (output .exit))) (now (heads .exit)) ≡ scanByte self kind byte (now (heads .entry)) (lent (now (cells .entry)) (now (output .entry))) ⌝ }
     {
         if self.quotes > 0 {
             return self.scan_quoted(kind, byte, cells, output);
         }
-        self.scan_sign(kind, byte, cells, output)
+        self.scan_sign(kind, byte, heads, cells, output)
     }
 
-    fn scan_sign(self, kind: u8, byte: u8, cells: &mut [u32], output: &mut [u8]) -> Stepped
+    fn scan_sign(
+        self,
+        kind: u8,
+        byte: u8,
+        heads: &mut [u32; 64],
+        cells: &mut [u32],
+        output: &mut [u8],
+    ) -> Stepped
         requires { ⌜ (Sound (length (now cells)) self) × (self .counts .written ≤ length (now output)) ⌝ }
-        ensures { λ r. ⌜ leaves r (lent (now (cells .exit)) (now (output .exit))) ≡ scanSign self kind byte (lent (now (cells .entry)) (now (output .entry))) ⌝ }
+        ensures { λ r. ⌜ leavesIndexed r (lent (now (cells .exit)) (now (output .exit))) (now (heads .exit)) ≡ scanSign self kind byte (now (heads .entry)) (lent (now (cells .entry)) (now (output .entry))) ⌝ }
     {
         match kind {
             1 => self.open_call(cells),
             2 => self.separate(byte, cells, output),
-            3 => self.apply(byte, cells, output),
+            3 => self.apply(byte, heads, cells, output),
             4 => self.fetch(byte, cells, output),
             5 => self.quoted(1),
             6 => self.unquote(byte, cells, output),

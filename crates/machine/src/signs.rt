@@ -1,4 +1,5 @@
 // `$`, `,`, `~` and an unquoted `>`, and the ends of a body and of the text.
+use crate::index;
 use crate::layout;
 use crate::lookup;
 use crate::run::Run;
@@ -12,7 +13,7 @@ ghost use lib.ListN.{length};
 ghost use Rattle.language.specs.Signs.{cellsLimit};
 ghost use Rattle.language.specs.Expansion.{lent};
 ghost use Rattle.machine.specs.Walks.{nowhere};
-ghost use Rattle.machine.specs.Machine.{Sound, leaves, openAt, openCall, endArgument, endByComma, separate, bodyByte, parameterNumber, fetchInText, fetchArgument, fetchNumber, fetchInBody, fetch, unquote, endText, ownCall, bodyEnded, endBodyTo, endBody};
+ghost use Rattle.machine.specs.Machine.{Sound, leaves, leavesIndexed, Shifted, shifted, openAt, openCall, endArgument, endByComma, separate, bodyByte, parameterNumber, fetchInText, fetchArgument, fetchNumber, fetchInBody, fetch, unquote, endText, ownCall, bodyEnded, endBodyTo, endBody};
 
 impl Run {
     // `$` opens a call with an empty name.
@@ -195,9 +196,9 @@ impl Run {
     }
 
     // The end of a body ends its call.
-    pub(crate) fn end_body(self, cells: &mut [u32]) -> Stepped
+    pub(crate) fn end_body(self, heads: &mut [u32; 64], cells: &mut [u32]) -> Stepped
         requires { ⌜ Sound (length (now cells)) self ⌝ }
-        ensures { λ r. ⌜ ((o : List ℕ) → leaves r (lent (now (cells .exit)) o) ≡ endBody self (lent (now (cells .entry)) o)) ⌝ }
+        ensures { λ r. ⌜ ((o : List ℕ) → leavesIndexed r (lent (now (cells .exit)) o) (now (heads .exit)) ≡ endBody self (now (heads .entry)) (lent (now (cells .entry)) o)) ⌝ }
     {
         if self.own_call(cells) {
             return self.ends_with(outcomes::BODY_IN_CALL);
@@ -208,7 +209,7 @@ impl Run {
         let reader = layout::return_link(cells, list);
         let behind = list + layout::high(links) + layout::LIST_OVERHEAD;
         let gone = lookup::definitions(cells, behind, to);
-        self.end_body_to(to, links, reader, gone, cells)
+        self.end_body_to(to, links, reader, gone, heads, cells)
     }
 
     // The list goes, with the definitions made while it was collected, which stand from its end up to `to`; those made in the
@@ -219,10 +220,11 @@ impl Run {
         links: u32,
         reader: u32,
         gone: usize,
+        heads: &mut [u32; 64],
         cells: &mut [u32],
     ) -> Stepped
         requires { ⌜ Sound (length (now cells)) self ⌝ }
-        ensures { λ r. ⌜ ((o : List ℕ) → leaves r (lent (now (cells .exit)) o) ≡ endBodyTo self to links reader gone (lent (now (cells .entry)) o)) ⌝ }
+        ensures { λ r. ⌜ ((o : List ℕ) → leavesIndexed r (lent (now (cells .exit)) o) (now (heads .exit)) ≡ endBodyTo self to links reader gone (now (heads .entry)) (lent (now (cells .entry)) o)) ⌝ }
     {
         let list = self.source.list;
         let right = self.right;
@@ -238,7 +240,8 @@ impl Run {
         if self.counts.live < gone {
             return self.damaged();
         }
-        memory::move_block(cells, right, right + (to - list), list - right);
+        let behind = list + layout::high(links) + layout::LIST_OVERHEAD;
+        shift(right, list, behind, to, heads, cells);
         self.body_ended(to, links, reader, gone).goes_on()
     }
 
@@ -261,6 +264,27 @@ impl Run {
         self.charge = self.charge - went;
         self
     }
+}
+
+// The definitions before a list move up to `to`; those behind it go. All leave the index, and those that moved come back into it:
+// it costs what goes and what moves, whatever else stands.
+fn shift(
+    right: usize,
+    list: usize,
+    behind: usize,
+    to: usize,
+    heads: &mut [u32; 64],
+    cells: &mut [u32],
+)
+    requires { ⌜ (length (now cells) ≤ cellsLimit) × (right ≤ list) × (list ≤ to) × (to ≤ length (now cells)) × (behind ≤ 4294967296) ⌝ }
+    ensures { λ _. ⌜ record { cells = now (cells .exit); heads = now (heads .exit) } ≡ shifted right list behind to (now (cells .entry)) (now (heads .entry)) ⌝ }
+{
+    let by = to - list;
+    index::remove(heads, cells, right, list);
+    index::remove(heads, cells, behind, to);
+    memory::move_block(cells, right, right + by, list - right);
+    index::relink(heads, cells, right + by, to, list, by);
+    index::restore(heads, cells, right + by, to);
 }
 
 // The parameter that the byte after `~` stands for: 0 to 9 for a digit, 10 to 35 for a letter `a` to `z`. Comparisons in a row

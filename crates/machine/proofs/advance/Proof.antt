@@ -11,23 +11,24 @@ use Rattle.machine.proofs.advance.Statement.{statement}
 use Rattle.machine.proofs.advance.Tie as tie
 
 abbrev Inv-loop : tie.InvT-loop
-Inv-loop due kinds text cells₀ output₀ until run₀ cells output run =
-    Going kinds text (length cells₀) (length output₀) run₀ (lent cells₀ output₀) due run (lent cells output) until
+Inv-loop due kinds text heads₀ cells₀ output₀ until run₀ heads cells output run =
+    Going kinds text (length cells₀) (length output₀) run₀ heads₀ (lent cells₀ output₀) due run heads (lent cells output) until
 
 abbrev μ-loop : tie.MeasureT-loop
-μ-loop due kinds text cells₀ output₀ until run₀ cells output run = until - run .counts .scans
+μ-loop due kinds text heads₀ cells₀ output₀ until run₀ heads cells output run = until - run .counts .scans
 
 add-until : tie.Need-add-until Inv-loop μ-loop
 add-until c = search needs
 
 loop-holds : tie.Need-loop-holds Inv-loop μ-loop
 loop-holds c =
-    let s = c .before .before .before .before in
-    begins _ _ _ _ (s .args .from) (lent (s .args .cells .now) (s .args .output .now)) (s .args .due) refl refl (λ i. c .before .before .slice-known .given i .fits) (s .pre .0) (s .pre .1)
+    let b = c .before .before .before .before in
+    begins _ _ _ _ (b .args .from) (b .args .heads .now) (lent (b .args .cells .now) (b .args .output .now)) (b .args .due) refl refl (λ i. c .before .before .slice-known .given i .fits) (b .pre .0) (b .pre .1)
 
 step-requires : tie.Need-step-requires Inv-loop μ-loop
 step-requires c κs =
-    readyOf _ _ _ _ (c .before .before .before .before .loop .inv) (c .before .before .if1 .taken)
+    let b = c .before .before .before .before in
+    readyOf _ _ _ _ (b .before .loop .inv) (c .before .before .before .if1 .taken)
 
 enum-told : tie.Need-enum-told Inv-loop μ-loop
 enum-told c = search needs
@@ -42,26 +43,26 @@ returns : tie.Need-returns Inv-loop μ-loop
 returns c =
     let b = c .before .before .before .before in
     let b₂ = b .before .before .before .before in
-    let g = b₂ .before .before .loop .inv in
-    ends _ _ _ _ g (b₂ .if1 .taken) _ (b .before .step .ensures) (omega (arith, b .cells .given, g .cells)) (omega (arith, c .before .before .output .given, g .output)) _ _ refl
+    let g = b₂ .before .before .before .loop .inv in
+    ends _ _ _ _ g (b₂ .before .if1 .taken) _ (b .before .step .ensures) (omega (arith, b .cells .given, g .cells)) (omega (arith, c .before .before .output .given, g .output)) _ _ _ refl
     (not-on (b .before .step .result .answer) (c .match .keys2)) refl refl
 
 loop-less : tie.Need-loop-less Inv-loop μ-loop
 loop-less c =
     let b = c .before .before .before .before in
-    let b₂ = b .before .before .before in
-    let b₃ = b₂ .before .before .before in
-    let g = b₃ .before .before .loop .inv in
-    let e = onceMore _ _ _ _ g (b₃ .if1 .taken) _ (b₂ .step .ensures) (omega (arith, b .before .before .cells .given, g .cells)) (omega (arith, b .output .given, g .output)) (c .before .enum-told .given .1) in
-    omega (arith, b₃ .if1 .taken)
+    let b₂ = b .before .before .before .before in
+    let b₃ = b₂ .before .before .before .before in
+    let g = b₃ .before .loop .inv in
+    let e = onceMore _ _ _ _ g (b₂ .before .before .before .if1 .taken) _ (b .before .before .before .step .ensures) (omega (arith, b .before .before .cells .given, g .cells)) (omega (arith, b .output .given, g .output)) (c .before .enum-told .given .1) in
+    omega (arith, b₂ .before .before .before .if1 .taken)
 
 loop-again : tie.Need-loop-again Inv-loop μ-loop
 loop-again c =
     let b = c .before .before .before .before in
-    let b₂ = b .before .before .before in
-    let b₃ = b₂ .before .before .before in
-    let g = b₃ .before .before .loop .inv in
-    again _ _ _ _ g (b₃ .if1 .taken) _ (b₂ .step .ensures) (omega (arith, b .before .before .cells .given, g .cells)) (omega (arith, b .output .given, g .output))
+    let b₂ = b .before .before .before .before in
+    let b₃ = b₂ .before .before .before .before in
+    let g = b₃ .before .loop .inv in
+    again _ _ _ _ g (b₂ .before .before .before .if1 .taken) _ (b .before .before .before .step .ensures) (omega (arith, b .before .before .cells .given, g .cells)) (omega (arith, b .output .given, g .output))
     (λ i. b .before .slice-known3 .given i .fits) (c .before .enum-told .given .1)
 
 goes-on-requires : tie.Need-goes-on-requires Inv-loop μ-loop
@@ -74,8 +75,7 @@ same-length-4 : tie.Need-same-length-4 Inv-loop μ-loop
 same-length-4 c = search needs
 
 returns-2 : tie.Need-returns-2 Inv-loop μ-loop
-returns-2 c =
-    rw (c .goes-on .ensures) (done _ _ _ _ (c .before .before .before .loop .inv) (c .before .if1 .left) refl refl)
+returns-2 c = rw (c .goes-on .ensures) (done _ _ _ _ (c .before .before .before .loop .inv) (c .before .if1 .left) refl refl)
 
 pub advance-spec : {M : Type 1} → statement M
 advance-spec =

@@ -14,7 +14,8 @@ portion-requires c κs = search needs
 
 advance-noting-requires : tie.Need-advance-noting-requires
 advance-noting-requires c κs =
-    (in-range _ _ _ (sym (c .before .before .before .before .before .before .is-in-range .ensures) ∙ c .before .before .before .before .before .if1 .taken), c .before .before .before .before .portion .ensures .1)
+    let b = c .before .before .before .before in
+    (in-range _ _ _ (sym (b .before .before .before .is-in-range .ensures) ∙ b .before .before .if1 .taken), b .before .portion .ensures .1)
 
 same-length : tie.Need-same-length
 same-length c = search needs
@@ -30,9 +31,13 @@ same-length-4 c = search needs
 
 returns : tie.Need-returns
 returns c =
-    let yes = sym (c .before .before .before .before .before .before .before .before .before .before .before .before .before .before .before .is-in-range .ensures) ∙ c .before .before .before .before .before .before .before .before .before .before .before .before .before .before .if1 .taken in
-    let p = c .before .before .before .before .before .before .before .before .before .before .before .before .before .portion .ensures .0 in
-    let a = c .before .before .before .before .before .before .before .before .advance-noting .ensures in (
+    let b = c .before .before .before .before in
+    let b₂ = b .before .before .before .before in
+    let b₃ = b₂ .before .before .before .before in
+    let b₄ = b₃ .before .before .before .before in
+    let yes = sym (b₄ .is-in-range .ensures) ∙ b₃ .before .before .before .if1 .taken in
+    let p = b₃ .before .before .portion .ensures .0 in
+    let a = b₂ .advance-noting .ensures in (
       record { refused = λ e. absurd (true≢false (sym yes ∙ e)); advanced = λ e. rw p at (a .0) },
       record { refused = λ e. absurd (true≢false (sym yes ∙ e)); kept = a .2; noted = λ e. rw p at (a .1) },
     )
@@ -40,7 +45,7 @@ returns c =
 returns-2 : tie.Need-returns-2
 returns-2 c =
     let no = sym (c .before .is-in-range .ensures) ∙ c .if1 .left in (
-      record { refused = λ e. (refl, refl); advanced = λ e. absurd (true≢false (sym e ∙ no)) },
+      record { refused = λ e. (refl, refl, refl); advanced = λ e. absurd (true≢false (sym e ∙ no)) },
       record { refused = λ e. refl; kept = λ e. refl; noted = λ e. absurd (true≢false (sym e ∙ no)) },
     )
 

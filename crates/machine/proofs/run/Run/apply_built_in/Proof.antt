@@ -25,7 +25,10 @@ same-length-2 : tie.Need-same-length-2
 same-length-2 c = search needs
 
 returns : tie.Need-returns
-returns c = rw (← c .before .before .before .before .before .before .before .before .before .before .built-in .ensures, c .before .before .before .before .before .before .before .before .named .given .1) (c .before .before .before .before .supplied .ensures)
+returns c =
+    let s = c .before .before .before .before in
+    let n = s .before .before .before .before .before in
+    rw (← n .before .before .built-in .ensures, n .named .given .1) (s .supplied .ensures)
 
 same-length-3 : tie.Need-same-length-3
 same-length-3 c = search needs

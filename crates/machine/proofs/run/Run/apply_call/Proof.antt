@@ -1,7 +1,7 @@
 -- The cell of the `;` is refused, or charged and the mark set in it.
 use native.Mathlib.Omega.{arith}
-use borrow.Author.Tests.{lt-ltb, le-ltb, le-leb, lt-leb}
 use borrow.Author.Needs.{needs}
+use borrow.Author.Tests.{lt-ltb, le-ltb, le-leb, lt-leb}
 use Rattle.machine.proofs.run.Run.apply_call.Statement.{statement}
 use Rattle.machine.proofs.run.Run.apply_call.Tie as tie
 
@@ -31,11 +31,11 @@ charged-requires c κs = search needs
 
 apply-marked-requires : tie.Need-apply-marked-requires
 apply-marked-requires c κs =
-    let b = c .before .before .before .before in
+    let b = c .before .before .before .before .before in
     let b₂ = b .before .before .before .before in
     let b₃ = b₂ .before .before .before in
     let pre = b₃ .before .before .before .before .before .before .before .pre in
-    rw (c .before .before .charged .ensures) (omega (arith, b .cells2 .given, b₂ .cells .given, b₃ .if2 .left, b₃ .before .before .before .if1 .left, pre .0, pre .1))
+    rw (c .before .before .before .charged .ensures) (omega (arith, b .cells2 .given, b₂ .cells .given, b₃ .if2 .left, b₃ .before .before .before .if1 .left, pre .0, pre .1))
 
 same-length : tie.Need-same-length
 same-length c = search needs
@@ -47,9 +47,9 @@ returns-3 : tie.Need-returns-3
 returns-3 c =
     let b = c .before .before .before .before in
     let b₂ = b .before .before .before .before in
-    let b₃ = b₂ .before .before .before .before in
+    let b₃ = b₂ .before .before .before in
     let b₄ = b₃ .before .before .before .before in
-    rw (lt-leb _ _ (b₄ .before .before .before .if1 .left), le-ltb _ _ (b₄ .if2 .left), b .apply-marked .ensures, b .before .before .before .charged .ensures, b₂ .before .before .write .ensures, b₃ .before .before .end-argument .ensures)
+    rw (lt-leb _ _ (b₄ .before .before .before .before .before .if1 .left), le-ltb _ _ (b₄ .before .before .if2 .left), b .apply-marked .ensures, b₂ .charged .ensures, b₃ .write .ensures, b₄ .end-argument .ensures)
 
 pub apply-call-spec : {M : Type 1} → statement M
 apply-call-spec =

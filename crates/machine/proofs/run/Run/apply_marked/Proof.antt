@@ -1,6 +1,8 @@
 -- A name that no definition has is looked for among the built-ins.
-use borrow.Author.Tests.{eq-eqb, ne-eqb}
+use mathlib.Core.Path.{ap}
 use borrow.Author.Needs.{needs}
+use borrow.Author.Tests.{eq-eqb, ne-eqb}
+use Rattle.machine.specs.Machine.{keeping}
 use Rattle.machine.proofs.run.Run.apply_marked.Statement.{statement}
 use Rattle.machine.proofs.run.Run.apply_marked.Tie as tie
 
@@ -22,8 +24,8 @@ same-length-2 c = search needs
 returns : tie.Need-returns
 returns c =
     let b = c .before .before .before .before in
-    let b₂ = b .before .before .before .before in
-    rw (← b₂ .newest .ensures, eq-eqb _ _ (b .before .before .before .if1 .taken)) (b .apply-built-in .ensures)
+    let t = b .before .before .before .before in
+    rw (← t .before .newest .ensures, eq-eqb _ _ (t .if1 .taken)) (b .apply-built-in .ensures)
 
 read-body-requires : tie.Need-read-body-requires
 read-body-requires c κs = search needs
@@ -33,8 +35,9 @@ same-length-3 c = search needs
 
 returns-2 : tie.Need-returns-2
 returns-2 c =
-    let b = c .before .before .before .before in
-    rw (← b .before .newest .ensures, ne-eqb _ _ (b .if1 .left)) (c .before .before .read-body .ensures _)
+    let t = c .before .before .before .before in
+    let a = t .before .before .before .before .before .before .before .args in
+    rw (← t .before .newest .ensures, ne-eqb _ _ (t .if1 .left)) (ap (keeping (a .heads .now)) (c .before .before .read-body .ensures _))
 
 pub apply-marked-spec : {M : Type 1} → statement M
 apply-marked-spec =

@@ -1,9 +1,11 @@
--- An empty name is turned away; else the definition is put in place once the call has ended.
+-- An empty name is turned away; else the definition is put in place once the call has ended and what it defined is gone from the index.
+use mathlib.Core.Path.{ap}
 use mathlib.Core.List.{[]}
 use native.Mathlib.Omega.{arith}
 use borrow.Author.Needs.{needs}
 use Rattle.language.specs.Expansion.{lent}
-use Rattle.machine.proofs.Leaves.{ended, nameless, not-defined, defines, roomy}
+use Rattle.machine.specs.Machine.{After}
+use Rattle.machine.proofs.Leaves.{ended, nameless, not-defined, defines, roomy, release-right}
 use Rattle.machine.proofs.run.Run.def.Statement.{statement}
 use Rattle.machine.proofs.run.Run.def.Tie as tie
 
@@ -23,7 +25,7 @@ returns : tie.Need-returns
 returns c =
     let b = c .before .before in
     let a = b .before .before .before .args in
-    λ o. nameless (a .self) (a .name) (a .value) (lent (a .cells .now) o) (b .read .ensures) (c .before .if1 .taken) (rw (c .ends-with .ensures))
+    λ o. nameless (a .self) (a .name) (a .value) (a .heads .now) (lent (a .cells .now) o) (b .read .ensures) (c .before .if1 .taken) (rw (c .ends-with .ensures))
 
 read-requires-2 : tie.Need-read-requires-2
 read-requires-2 c κs = search needs
@@ -34,6 +36,13 @@ cast-bytes c = search needs
 release-requires : tie.Need-release-requires
 release-requires c κs = search needs
 
+unindex-requires : tie.Need-unindex-requires
+unindex-requires c κs =
+    let r = c .before .before in
+    let s = r .before .before .before .before .before .before .before .before in
+    let small = release-right (s .args .self) (lent (s .args .cells .now) []) (omega arith) (omega arith) in
+    omega (arith, ap (λ (a : After). a .run .right) (r .release .ensures []))
+
 enum-told : tie.Need-enum-told
 enum-told c = search needs
 
@@ -42,16 +51,18 @@ same-length-2 c = search needs
 
 returns-2 : tie.Need-returns-2
 returns-2 c =
-    let r = c .before in
+    let u = c .before in
+    let r = u .before .before .before in
     let n = r .before .before .before .before .before in
     let a = n .before .before .before .args in
-    λ o. not-defined (a .self) (a .name) (a .value) (lent (a .cells .now) o) (n .read .ensures) (r .before .before .before .before .if1 .left) (r .release .ensures o) (ended (r .release .result .answer) (c .match .keys2))
+    λ o. not-defined (a .self) (a .name) (a .value) (a .heads .now) (lent (a .cells .now) o) (n .read .ensures) (r .before .before .before .before .if1 .left) (r .release .ensures o) (u .unindex .ensures o) (ended (r .release .result .answer) (c .match .keys2))
 
 define-in-requires : tie.Need-define-in-requires
 define-in-requires c κs =
-    let b = c .before .before .before .before in
-    let s = b .before .before .before .before .before .before .before .before in
-    let w = roomy (s .args .self) _ _ _ _ (lent _ []) (s .pre .0) (b .release .ensures []) (c .before .before .enum-told .given .1) in
+    let t = c .before .before .before in
+    let r = t .before .before .before .before .before in
+    let s = r .before .before .before .before .before .before .before .before in
+    let w = roomy (s .args .self) _ _ _ _ (lent _ []) (s .pre .0) (r .release .ensures []) (t .enum-told .given .1) in
     omega arith
 
 same-length-3 : tie.Need-same-length-3
@@ -59,11 +70,12 @@ same-length-3 c = search needs
 
 returns-3 : tie.Need-returns-3
 returns-3 c =
-    let t = c .before .before .before .before .before in
-    let b = t .before .before in
-    let n = b .before .before .before .before .before in
+    let t = c .before .before .before .before .before .before in
+    let u = t .before .before in
+    let r = u .before .before .before in
+    let n = r .before .before .before .before .before in
     let a = n .before .before .before .args in
-    λ o. defines (a .self) (a .name) (a .value) (lent (a .cells .now) o) (n .read .ensures) (b .before .before .before .before .if1 .left) (b .before .before .read2 .ensures) (b .release .ensures o) (t .enum-told .given .1) (c .before .before .define-in .ensures o)
+    λ o. defines (a .self) (a .name) (a .value) (a .heads .now) (lent (a .cells .now) o) (n .read .ensures) (r .before .before .before .before .if1 .left) (r .before .before .read2 .ensures) (r .release .ensures o) (u .unindex .ensures o) (t .enum-told .given .1) (c .before .before .define-in .ensures o)
 
 pub def-spec : {M : Type 1} → statement M
 def-spec =
@@ -77,6 +89,7 @@ def-spec =
     read-requires-2
     cast-bytes
     release-requires
+    unindex-requires
     enum-told
     same-length-2
     returns-2

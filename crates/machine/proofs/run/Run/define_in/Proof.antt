@@ -1,6 +1,6 @@
--- The value, the name and the head are put in place one after the other.
-use native.Mathlib.Omega.{arith}
+-- The value, the name and the head are put in place one after the other, and the definition comes into the index.
 use borrow.Author.Tests.{lt-ltb, le-ltb, le-leb, lt-leb}
+use native.Mathlib.Omega.{arith}
 use borrow.Author.Needs.{needs}
 use Rattle.machine.proofs.run.Run.define_in.Statement.{statement}
 use Rattle.machine.proofs.run.Run.define_in.Tie as tie
@@ -53,6 +53,12 @@ sub-write-head c = search needs
 write-head-requires : tie.Need-write-head-requires
 write-head-requires c κs = search needs
 
+sub-insert : tie.Need-sub-insert
+sub-insert c = search needs
+
+insert-requires : tie.Need-insert-requires
+insert-requires c κs = search needs
+
 defined-requires : tie.Need-defined-requires
 defined-requires c κs = search needs
 
@@ -60,11 +66,15 @@ goes-on-requires : tie.Need-goes-on-requires
 goes-on-requires c κs = search needs
 
 same-length : tie.Need-same-length
-same-length c = omega (arith, c .before .before .before .cells3 .given, c .before .before .before .before .before .before .before .cells2 .given, c .before .before .before .before .before .before .before .before .before .before .before .cells .given)
+same-length c =
+    let h = c .before .before .before .before .before .before .before .before in
+    let n = h .before .before .before .before in
+    omega (arith, c .before .before .before .cells4 .given, h .cells3 .given, n .cells2 .given, n .before .before .before .before .cells .given)
 
 returns-3 : tie.Need-returns-3
 returns-3 c =
-    let h = c .before .before .before .before in
+    let i = c .before .before .before .before in
+    let h = i .before .before .before .before .before in
     let n = h .before .before .before .before in
     let v = n .before .before .before .before in
     λ o. rw (
@@ -72,6 +82,8 @@ returns-3 c =
       lt-leb _ _ (v .before .before .if2 .left),
       c .goes-on .ensures,
       c .before .defined .ensures,
+      i .insert .ensures .0,
+      i .insert .ensures .1,
       h .write-head .ensures,
       n .move-block2 .ensures,
       v .move-block .ensures,
@@ -97,6 +109,8 @@ define-in-spec =
     move-block-requires-2
     sub-write-head
     write-head-requires
+    sub-insert
+    insert-requires
     defined-requires
     goes-on-requires
     same-length

@@ -1,5 +1,7 @@
 -- A call of the body's own is refused, else what the list's cells say is handed on.
 use borrow.Author.Needs.{needs}
+use Rattle.language.specs.Expansion.{lent}
+use Rattle.machine.proofs.Leaves.{hands-on}
 use Rattle.machine.proofs.run.Run.end_body.Statement.{statement}
 use Rattle.machine.proofs.run.Run.end_body.Tie as tie
 
@@ -47,10 +49,11 @@ same-length-2 c = search needs
 
 returns-2 : tie.Need-returns-2
 returns-2 c =
-    let b = c .before .before .before .before in
-    let b₂ = b .before .before .before .before in
-    let b₃ = b₂ .before .before .before .before in
-    λ o. rw (← b₃ .before .before .own-call .ensures, b₃ .before .if1 .left, c .before .before .end-body-to .ensures o, b .definitions .ensures, b .before .before .high .ensures, b .before .before .before .return-link .ensures, b₂ .before .list-link .ensures, b₂ .before .before .before .right-before .ensures)
+    let d = c .before .before .before .before .before in
+    let r = d .before .before .before in
+    let t = r .before .before .before .before .before .before in
+    let a = t .before .before .before .before .args in
+    λ o. hands-on (a .self) (a .heads .now) (lent (a .cells .now) o) (t .before .own-call .ensures) (t .if1 .left) (r .before .before .before .before .right-before .ensures) (r .before .before .list-link .ensures) (r .return-link .ensures) (d .before .before .high .ensures) (d .definitions .ensures) (c .before .before .end-body-to .ensures o)
 
 pub end-body-spec : {M : Type 1} → statement M
 end-body-spec =

@@ -1,6 +1,8 @@
--- Each test that fails leaves the next one to decide, and the move is made where none holds.
-use borrow.Author.Tests.{lt-ltb, le-ltb}
+-- Each test that fails leaves the next one to decide, and the shift is made where none holds.
+use mathlib.Core.Path.{ap}
 use borrow.Author.Needs.{needs}
+use borrow.Author.Tests.{lt-ltb, le-ltb}
+use Rattle.machine.specs.Machine.{Shifted}
 use Rattle.machine.proofs.run.Run.end_body_to.Statement.{statement}
 use Rattle.machine.proofs.run.Run.end_body_to.Tie as tie
 
@@ -30,11 +32,17 @@ returns-4 c =
     let b = c .before .before .before .before in
     λ o. rw (le-ltb _ _ (b .before .if1 .left), le-ltb _ _ (b .if2 .left), le-ltb _ _ (c .before .before .before .if3 .left), lt-ltb _ _ (c .before .if4 .taken), c .damaged4 .ensures)
 
-add-move-block : tie.Need-add-move-block
-add-move-block c = search needs
+high-requires : tie.Need-high-requires
+high-requires c κs = search needs
 
-move-block-requires : tie.Need-move-block-requires
-move-block-requires c κs = search needs
+add-behind : tie.Need-add-behind
+add-behind c = search needs
+
+add-behind-2 : tie.Need-add-behind-2
+add-behind-2 c = search needs
+
+shift-requires : tie.Need-shift-requires
+shift-requires c κs = search needs
 
 body-ended-requires : tie.Need-body-ended-requires
 body-ended-requires c κs = search needs
@@ -47,9 +55,19 @@ same-length c = search needs
 
 returns-5 : tie.Need-returns-5
 returns-5 c =
-    let b = c .before .before .before .before in
-    let b₂ = b .before .before .before .before in
-    λ o. rw (le-ltb _ _ (b₂ .before .before .if1 .left), le-ltb _ _ (b₂ .before .if2 .left), le-ltb _ _ (b₂ .if3 .left), le-ltb _ _ (b .before .before .if4 .left), c .goes-on .ensures, c .before .body-ended .ensures, b .move-block .ensures)
+    let s = c .before .before .before .before in
+    let b = s .before .before .before .before in
+    λ o. rw (
+      le-ltb _ _ (b .before .before .before .before .if1 .left),
+      le-ltb _ _ (b .before .before .before .if2 .left),
+      le-ltb _ _ (b .before .before .if3 .left),
+      le-ltb _ _ (b .if4 .left),
+      c .goes-on .ensures,
+      c .before .body-ended .ensures,
+      ap (λ (x : Shifted). x .cells) (s .shift .ensures),
+      ap (λ (x : Shifted). x .heads) (s .shift .ensures),
+      s .before .before .before .high .ensures,
+    )
 
 pub end-body-to-spec : {M : Type 1} → statement M
 end-body-to-spec =
@@ -63,8 +81,10 @@ end-body-to-spec =
     returns-3
     damaged-requires-4
     returns-4
-    add-move-block
-    move-block-requires
+    high-requires
+    add-behind
+    add-behind-2
+    shift-requires
     body-ended-requires
     goes-on-requires
     same-length

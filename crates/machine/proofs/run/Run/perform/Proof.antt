@@ -1,9 +1,43 @@
--- Each built-in is carried out on the arguments that it needs.
+-- Each built-in is carried out on the arguments that it needs. Where its call has ended, what was defined since its `$` goes out of the
+-- index.
+use Prim.Native.Nat.{_≤_}
+use mathlib.Core.Path.{refl, _∙_}
+use mathlib.Core.Logic.{⊎-elim}
+use native.Mathlib.Omega.{arith}
+use lib.ListN.{length}
 use borrow.Author.Needs.{needs}
 use Rattle.language.specs.Expansion.{lent}
-use Rattle.machine.proofs.Leaves.{calculates, compares}
+use Rattle.machine.proofs.Leaves.{Carried, carries, calculates, compares, measures, val-right, update-right, answer-right, count-right, choose-right, lock-right}
 use Rattle.machine.proofs.run.Run.perform.Statement.{statement}
 use Rattle.machine.proofs.run.Run.perform.Tie as tie
+
+-- Each arm leaves what its built-in does.
+carried : (c : tie.At-match-came) → Carried (c .before .before .before .before .before .before .before .args .self) (c .before .before .before .before .before .before .before .args .built-in) (c .before .before .before .before .before .before .before .args .name) (c .before .before .before .before .before .before .before .args .heads .now) (lent (c .before .before .before .before .before .before .before .args .cells .now) (c .before .before .before .before .before .before .before .args .output .now)) (c .match .st) (c .match .cells) (c .match .output)
+carried c =
+    let s = c .before .before .before .before .before .before .before in
+    let a = s .args in
+    let r = a .self in
+    let h = a .heads .now in
+    let m = lent (a .cells .now) (a .output .now) in
+    let inside : r .right ≤ 65536 = omega arith in
+    let size : length (a .cells .now) ≤ 65536 = omega arith in
+    let p = c .before .before .before .argument .result in
+    let q = c .before .argument2 .result in
+    let first = c .before .before .before .argument .ensures .0 in
+    let second = c .before .argument2 .ensures .0 in
+    (⊎-elim
+    (λ w. carries (w .10) (w .11) (w .12) (w .6 .given) (w .8 .given) (w .5 .ensures) (val-right r m inside size p h) (rw ((w .1 .given .1), ← first)))
+    (⊎-elim
+    (λ w. carries (w .7) (w .8) (w .9) (w .5 .given) refl (w .4 .ensures _) (update-right r m inside size p q h) (rw ((w .1 .given .1), ← first, ← second)))
+    (⊎-elim
+    (λ w. carries (w .12) (w .13) (w .14) (w .8 .given) (w .10 .given) (w .7 .ensures) (answer-right r m inside size (w .4 .result)) (calculates r (a .name) h m (w .1 .given .1) first second (w .4 .ensures)))
+    (⊎-elim
+    (λ w. carries (w .11) (w .12) (w .13) (w .7 .given) (w .9 .given) (w .6 .ensures) (count-right r m inside size (w .3 .result)) (compares r (a .name) h m (w .1 .given .1) first second (w .3 .ensures)))
+    (⊎-elim
+    (λ w. carries (w .11) (w .12) (w .13) (w .7 .given) (w .9 .given) (w .6 .ensures) (count-right r m inside size (w .3 .result)) (measures r (a .name) h m (w .1 .given .1) first (w .3 .ensures)))
+    (⊎-elim
+    (λ w. carries (w .9) (w .10) (w .11) (w .5 .given) (w .7 .given) (w .4 .ensures) (choose-right r m inside size (a .name)) (rw (w .1 .given .1)))
+    (λ w. carries (w .7) (w .8) (w .9) (w .5 .given) refl (w .4 .ensures _) (lock-right r m inside size p h) (rw ((w .1 .given .1), ← first))))))))) (c .match .came)
 
 argument-requires : tie.Need-argument-requires
 argument-requires c κs = search needs
@@ -16,6 +50,15 @@ enum-told c = search needs
 
 def-requires : tie.Need-def-requires
 def-requires c κs = search needs
+
+same-length : tie.Need-same-length
+same-length c = search needs
+
+returns : tie.Need-returns
+returns c =
+    let a₂ = c .before .before .before .before .before .before .before in
+    let a₁ = a₂ .before .before in
+    rw (c .before .before .before .before .before .enum-told .given .1, ← a₁ .argument .ensures .0, ← a₂ .argument2 .ensures .0) (c .before .before .def .ensures _)
 
 enum-told-2 : tie.Need-enum-told-2
 enum-told-2 c = search needs
@@ -68,95 +111,17 @@ enum-told-7 c = search needs
 lock-requires : tie.Need-lock-requires
 lock-requires c κs = search needs
 
-same-length : tie.Need-same-length
-same-length c = search needs
-
-returns : tie.Need-returns
-returns c =
-    let a₂ = c .before .before .before .before .before .before in
-    let a₁ = a₂ .before .before in
-    rw (c .before .before .before .before .enum-told .given .1, ← a₁ .argument .ensures .0, ← a₂ .argument2 .ensures .0) (c .before .before .def .ensures _)
+unindex-requires : tie.Need-unindex-requires
+unindex-requires c κs = let k = carried (c .before .before) in omega arith
 
 same-length-2 : tie.Need-same-length-2
-same-length-2 c = search needs
+same-length-2 c = carried (c .before .before .before) .long
 
 same-length-3 : tie.Need-same-length-3
-same-length-3 c = search needs
+same-length-3 c = carried (c .before .before .before) .wide
 
 returns-2 : tie.Need-returns-2
-returns-2 c =
-    let a = c .before .before .before .before .before .before .before .before .before .before .before in
-    rw (c .before .before .before .before .before .before .before .enum-told2 .given .1, ← a .argument .ensures .0) (c .before .before .before .before .val .ensures)
-
-same-length-4 : tie.Need-same-length-4
-same-length-4 c = search needs
-
-returns-3 : tie.Need-returns-3
-returns-3 c =
-    let a₂ = c .before .before .before .before .before .before in
-    let a₁ = a₂ .before .before in
-    rw (c .before .before .before .before .enum-told3 .given .1, ← a₁ .argument .ensures .0, ← a₂ .argument2 .ensures .0) (c .before .before .update .ensures _)
-
-same-length-5 : tie.Need-same-length-5
-same-length-5 c = search needs
-
-same-length-6 : tie.Need-same-length-6
-same-length-6 c = search needs
-
-returns-4 : tie.Need-returns-4
-returns-4 c =
-    let t = c .before .before .before .before .before .before .before .before .before .before in
-    let a₂ = t .before .before in
-    let a₁ = a₂ .before .before in
-    let a = a₁ .before .before .before .before .args in
-    calculates (a .self) (a .name) (lent (a .cells .now) (a .output .now)) (t .built-in .given .1) (a₁ .argument .ensures .0) (a₂ .argument2 .ensures .0) (c .before .before .before .before .before .before .before .calculate .ensures) (c .before .before .before .before .give-answer .ensures)
-
-same-length-7 : tie.Need-same-length-7
-same-length-7 c = search needs
-
-same-length-8 : tie.Need-same-length-8
-same-length-8 c = search needs
-
-returns-5 : tie.Need-returns-5
-returns-5 c =
-    let g = c .before .before .before .before in
-    let x = g .before .before .before in
-    let t = x .before .before in
-    let a₂ = t .before .before in
-    let a₁ = a₂ .before .before in
-    let a = a₁ .before .before .before .before .args in
-    compares (a .self) (a .name) (lent (a .cells .now) (a .output .now)) (t .enum-told4 .given .1) (a₁ .argument .ensures .0) (a₂ .argument2 .ensures .0) (x .compare .ensures) (g .give-count .ensures)
-
-same-length-9 : tie.Need-same-length-9
-same-length-9 c = search needs
-
-same-length-10 : tie.Need-same-length-10
-same-length-10 c = search needs
-
-returns-6 : tie.Need-returns-6
-returns-6 c =
-    let g = c .before .before .before .before in
-    let x = g .before .before .before in
-    let t = x .before .before in
-    rw (t .enum-told5 .given .1, ← t .before .before .before .before .argument .ensures .0, ← x .read .ensures) (g .give-count2 .ensures)
-
-same-length-11 : tie.Need-same-length-11
-same-length-11 c = search needs
-
-same-length-12 : tie.Need-same-length-12
-same-length-12 c = search needs
-
-returns-7 : tie.Need-returns-7
-returns-7 c = let b = c .before .before .before .before in rw (b .before .before .before .enum-told6 .given .1) (b .choose .ensures)
-
-same-length-13 : tie.Need-same-length-13
-same-length-13 c = search needs
-
-returns-8 : tie.Need-returns-8
-returns-8 c =
-    let b = c .before .before in
-    let t = b .before .before in
-    rw (t .enum-told7 .given .1, ← t .before .before .before .before .argument .ensures .0) (b .lock .ensures _)
+returns-2 c = c .unindex .ensures _ ∙ carried (c .before .before .before) .performs
 
 pub perform-spec : {M : Type 1} → statement M
 perform-spec =
@@ -166,6 +131,8 @@ perform-spec =
     argument-requires-2
     enum-told
     def-requires
+    same-length
+    returns
     enum-told-2
     val-requires
     enum-told-3
@@ -183,24 +150,7 @@ perform-spec =
     choose-requires
     enum-told-7
     lock-requires
-    same-length
-    returns
+    unindex-requires
     same-length-2
     same-length-3
-    returns-2
-    same-length-4
-    returns-3
-    same-length-5
-    same-length-6
-    returns-4
-    same-length-7
-    same-length-8
-    returns-5
-    same-length-9
-    same-length-10
-    returns-6
-    same-length-11
-    same-length-12
-    returns-7
-    same-length-13
-    returns-8)
+    returns-2)

@@ -1,6 +1,8 @@
 -- Inside quotes only quotes are recognised.
-use borrow.Author.Tests.{lt-ltb, le-ltb}
+use mathlib.Core.Path.{ap}
 use borrow.Author.Needs.{needs}
+use borrow.Author.Tests.{lt-ltb, le-ltb}
+use Rattle.machine.specs.Machine.{keeping}
 use Rattle.machine.proofs.run.Run.scan_byte.Statement.{statement}
 use Rattle.machine.proofs.run.Run.scan_byte.Tie as tie
 
@@ -16,7 +18,8 @@ same-length-2 c = search needs
 returns : tie.Need-returns
 returns c =
     let b = c .before .before .before .before in
-    rw (lt-ltb _ _ (b .before .before .before .if1 .taken)) (b .scan-quoted .ensures)
+    let t = b .before .before .before in
+    rw (lt-ltb _ _ (t .if1 .taken)) (ap (keeping (t .before .before .before .before .args .heads .now)) (b .scan-quoted .ensures))
 
 scan-sign-requires : tie.Need-scan-sign-requires
 scan-sign-requires c κs = search needs
@@ -30,7 +33,7 @@ same-length-4 c = search needs
 returns-2 : tie.Need-returns-2
 returns-2 c =
     let b = c .before .before .before .before in
-    rw (le-ltb _ _ (b .before .before .before .if1 .left)) (b .scan-sign .ensures)
+    rw (le-ltb _ _ (b .before .before .before .before .if1 .left)) (b .scan-sign .ensures)
 
 pub scan-byte-spec : {M : Type 1} → statement M
 scan-byte-spec =

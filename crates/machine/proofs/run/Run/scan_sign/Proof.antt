@@ -1,6 +1,8 @@
 -- Each kind has its arm, and a byte of no kind is put.
-use borrow.Author.Tests.{ne-eqb}
+use mathlib.Core.Path.{ap}
 use borrow.Author.Needs.{needs}
+use borrow.Author.Tests.{ne-eqb}
+use Rattle.machine.specs.Machine.{keeping}
 use Rattle.machine.proofs.run.Run.scan_sign.Statement.{statement}
 use Rattle.machine.proofs.run.Run.scan_sign.Tie as tie
 
@@ -30,8 +32,8 @@ same-length c = search needs
 
 returns : tie.Need-returns
 returns c =
-    let b = c .before .before .before .before in
-    rw (b .match .keys1) (c .before .before .open-call .ensures _)
+    let m = c .before .before .before .before in
+    rw (m .match .keys1) (ap (keeping (m .before .before .before .args .heads .now)) (c .before .before .open-call .ensures _))
 
 same-length-2 : tie.Need-same-length-2
 same-length-2 c = search needs
@@ -42,7 +44,8 @@ same-length-3 c = search needs
 returns-2 : tie.Need-returns-2
 returns-2 c =
     let b = c .before .before .before .before in
-    rw (b .before .before .before .match .keys2) (b .separate .ensures)
+    let m = b .before .before .before in
+    rw (m .match .keys2) (ap (keeping (m .before .before .before .args .heads .now)) (b .separate .ensures))
 
 same-length-4 : tie.Need-same-length-4
 same-length-4 c = search needs
@@ -53,7 +56,7 @@ same-length-5 c = search needs
 returns-3 : tie.Need-returns-3
 returns-3 c =
     let b = c .before .before .before .before in
-    rw (b .before .before .before .match .keys3) (b .apply .ensures)
+    rw (b .before .before .before .before .match .keys3) (b .apply .ensures)
 
 same-length-6 : tie.Need-same-length-6
 same-length-6 c = search needs
@@ -64,7 +67,8 @@ same-length-7 c = search needs
 returns-4 : tie.Need-returns-4
 returns-4 c =
     let b = c .before .before .before .before in
-    rw (b .before .before .before .match .keys4) (b .fetch .ensures)
+    let m = b .before .before .before in
+    rw (m .match .keys4) (ap (keeping (m .before .before .before .args .heads .now)) (b .fetch .ensures))
 
 returns-5 : tie.Need-returns-5
 returns-5 c = rw (c .before .match .keys5, c .quoted .ensures)
@@ -78,7 +82,8 @@ same-length-9 c = search needs
 returns-6 : tie.Need-returns-6
 returns-6 c =
     let b = c .before .before .before .before in
-    rw (b .before .before .before .match .keys6) (b .unquote .ensures)
+    let m = b .before .before .before in
+    rw (m .match .keys6) (ap (keeping (m .before .before .before .args .heads .now)) (b .unquote .ensures))
 
 same-length-10 : tie.Need-same-length-10
 same-length-10 c = search needs
@@ -89,7 +94,10 @@ same-length-11 c = search needs
 returns-7 : tie.Need-returns-7
 returns-7 c =
     let b = c .before .before .before .before in
-    rw (ne-eqb _ _ (b .before .before .before .match .rest .0 .0 .0 .0 .0 .1), ne-eqb _ _ (b .before .before .before .match .rest .0 .0 .0 .0 .1), ne-eqb _ _ (b .before .before .before .match .rest .0 .0 .0 .1), ne-eqb _ _ (b .before .before .before .match .rest .0 .0 .1), ne-eqb _ _ (b .before .before .before .match .rest .0 .1), ne-eqb _ _ (b .before .before .before .match .rest .1)) (b .put .ensures)
+    let m = b .before .before .before in
+    let n = m .match .rest in
+    rw (ne-eqb _ _ (n .0 .0 .0 .0 .0 .1), ne-eqb _ _ (n .0 .0 .0 .0 .1), ne-eqb _ _ (n .0 .0 .0 .1), ne-eqb _ _ (n .0 .0 .1), ne-eqb _ _ (n .0 .1), ne-eqb _ _ (n .1))
+    (ap (keeping (m .before .before .before .args .heads .now)) (b .put .ensures))
 
 pub scan-sign-spec : {M : Type 1} → statement M
 scan-sign-spec =

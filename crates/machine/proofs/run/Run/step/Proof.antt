@@ -23,11 +23,11 @@ same-length c = search needs
 returns : tie.Need-returns
 returns c =
     let b = c .before .before in
-    let t = b .before .before in
+    let t = b .before .before .before in
     let k = t .before .before .before .before .before .before .before in
     let a = k .before .args in
     b .end-source .ensures _
-    ∙ at-end (a .self) (a .kinds .now) (a .text .now) (a .cells .now) (a .output .now) (λ i. k .shared-slice-known .given i .fits)
+    ∙ at-end (a .self) (a .kinds .now) (a .text .now) (a .heads .now) (a .cells .now) (a .output .now) (λ i. k .shared-slice-known .given i .fits)
     (sym (t .before .next-byte .ensures) ∙ t .if1 .taken)
 
 cast-byte : tie.Need-cast-byte
@@ -43,7 +43,7 @@ kind-requires c κs = search needs
 
 scan-byte-requires : tie.Need-scan-byte-requires
 scan-byte-requires c κs =
-    let p = c .before .before .before in
+    let p = c .before .before .before .before in
     let e = p .before in
     let k = e .before .before .before .before .before .before in
     let a = k .before .before .args in
@@ -61,13 +61,13 @@ same-length-3 c = search needs
 returns-2 : tie.Need-returns-2
 returns-2 c =
     let b = c .before .before .before .before in
-    let k = b .before .before .before in
+    let k = b .before .before .before .before in
     let e = k .before .before in
     let h = e .before .before .before .before .before .before .before in
     let a = h .before .args in
     b .scan-byte .ensures
     ∙ rw (k .before .passed .ensures)
-    (before (a .self) (a .kinds .now) (a .text .now) (a .cells .now) (a .output .now) (λ i. h .shared-slice-known .given i .fits) (e .before .next-byte .ensures) (e .if1 .left) (k .kind .ensures))
+    (before (a .self) (a .kinds .now) (a .text .now) (a .heads .now) (a .cells .now) (a .output .now) (λ i. h .shared-slice-known .given i .fits) (e .before .next-byte .ensures) (e .if1 .left) (k .kind .ensures))
 
 pub step-spec : {M : Type 1} → statement M
 step-spec =

@@ -1,7 +1,7 @@
 -- The last parameter that the built-in needs is there, or is missing.
 use native.Mathlib.Omega.{arith}
-use borrow.Author.Tests.{eq-eqb, ne-eqb}
 use borrow.Author.Needs.{needs}
+use borrow.Author.Tests.{eq-eqb, ne-eqb}
 use Rattle.machine.proofs.Leaves.{few}
 use Rattle.machine.proofs.run.Run.supplied.Statement.{statement}
 use Rattle.machine.proofs.run.Run.supplied.Tie as tie
@@ -32,8 +32,9 @@ same-length-3 c = search needs
 
 returns-2 : tie.Need-returns-2
 returns-2 c =
-    let t = c .before .before .before .before .before .before .before in
-    rw (← t .before .before .needs .ensures, ← t .before .argument .ensures .0, ne-eqb _ _ (t .if1 .left)) (c .before .before .before .before .perform .ensures)
+    let p = c .before .before .before .before in
+    let t = p .before .before .before .before in
+    rw (← t .before .before .needs .ensures, ← t .before .argument .ensures .0, ne-eqb _ _ (t .if1 .left)) (p .perform .ensures)
 
 pub supplied-spec : {M : Type 1} → statement M
 supplied-spec =

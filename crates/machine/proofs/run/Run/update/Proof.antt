@@ -53,7 +53,7 @@ update-in-requires : tie.Need-update-in-requires
 update-in-requires c κs =
     let n = c .before .before .before .before .before .before .before .before in
     let s = n .before .before .before in
-    omega (arith, found-below (s .args .cells .now) (s .args .self .right) (s .args .self .source .list) (s .args .name) (n .newest .ensures) (s .pre .0 .cellsLent))
+    omega (arith, found-below (s .args .cells .now) (s .args .heads .now) (s .args .name) (n .newest .ensures) (s .pre .0 .cellsLent))
 
 same-length-4 : tie.Need-same-length-4
 same-length-4 c = search needs

@@ -11,7 +11,7 @@ use Rattle.machine.proofs.run.Run.val.Tie as tie
 found-small : (c : tie.After-newest) → c .newest .result ≤ 65535
 found-small c =
     let s = c .before .before .before .before in
-    found-below (s .args .cells .now) (s .args .self .right) (s .args .self .source .list) (s .args .name) (c .newest .ensures) (s .pre .0 .cellsLent)
+    found-below (s .args .cells .now) (s .args .heads .now) (s .args .name) (c .newest .ensures) (s .pre .0 .cellsLent)
 
 newest-requires : tie.Need-newest-requires
 newest-requires c κs = search needs
@@ -26,7 +26,7 @@ returns : tie.Need-returns
 returns c =
     let n = c .before .before .before in
     let a = n .before .before .before .before .args in
-    not-valued (a .self) (a .name) (lent (a .cells .now) (a .output .now)) (n .newest .ensures) (c .before .before .if1 .taken) (c .refuse-name .ensures _)
+    not-valued (a .self) (a .name) (a .heads .now) (lent (a .cells .now) (a .output .now)) (n .newest .ensures) (c .before .before .if1 .taken) (c .refuse-name .ensures _)
 
 value-length-requires : tie.Need-value-length-requires
 value-length-requires c κs = omega (arith, found-small (c .before .before))
@@ -61,7 +61,7 @@ returns-2 c =
     let n = b .before .before .before in
     let t = n .before .before .before .before in
     let a = t .before .before .before .before .before .args in
-    valued (a .self) (a .name) (lent (a .cells .now) (a .output .now)) (t .before .newest .ensures) (t .if1 .left) (n .name-length .ensures) (n .before .before .value-length .ensures) (b .give-block .ensures)
+    valued (a .self) (a .name) (a .heads .now) (lent (a .cells .now) (a .output .now)) (t .before .newest .ensures) (t .if1 .left) (n .name-length .ensures) (n .before .before .value-length .ensures) (b .give-block .ensures)
 
 pub val-spec : {M : Type 1} → statement M
 val-spec =
