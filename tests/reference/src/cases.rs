@@ -1,6 +1,7 @@
-//! Scripts with known ends, worked out by hand from document 01 and document 02's requests One to Nine, against
+//! Scripts with known ends, worked out by hand from document 01 and document 02's requests One to Nine and Thirteen, against
 //! both halves.
 mod charge_carried;
+mod groups;
 mod keys;
 mod locked;
 mod m6_words;
@@ -109,24 +110,24 @@ const A: &str = "$DEF,k,<p~1>;$k,7;";
 #[test]
 fn table_of_document_01() {
     check(&[
-        (A, "0 18 2 22 16 1", "p7"),
+        (A, "0 18 2 22 17 1", "p7"),
         ("", "0 0 0 1 0 0", ""),
         ("$A,X,U,$DEF,A,<~1~2~1>;;", "0 24 3 29 27 0", "XUX"),
         ("a<b<c>d>e", "0 9 7 10 0 0", "ab<c>de"),
         ("p>q", "1 2 1 2 0 0", "p"),
-        ("$DEF,k,<1,2>;$DEF,j,<~1+~2>;$j,$k;;", "0 35 3 44 33 2", "1+2"),
-        ("$DEF,k,<x;>;$k;", "10 15 1 17 13 1", "x"),
-        ("$DEF,k,<$j>;$k;", "14 15 0 18 18 1", ""),
+        ("$DEF,k,<1,2>;$DEF,j,<~1+~2>;$j,$k;;", "0 35 3 44 35 2", "1+2"),
+        ("$DEF,k,<x;>;$k;", "10 15 1 17 14 1", "x"),
+        ("$DEF,k,<$j>;$k;", "14 15 0 18 19 1", ""),
         (
             "$DEF,t,<$~1,$DEF,~1,no;$DEF,a,yes;;>;$t,a;$t,b;",
-            "0 47 5 107 67 1",
+            "0 47 5 107 69 1",
             "yesno",
         ),
-        ("$DEF,k,ab;$UPDATE,k,c;$k;$UPDATE,k,xy;$k;", "0 41 3 47 23 1", "cxy"),
-        ("$DEF,k,ab;$UPDATE,k,c;$k;$UPDATE,k,xyz;$k;", "21 39 1 41 24 1", "c"),
-        ("$DEF,k,<$UPDATE,k,a;>;$k;", "20 25 0 37 38 1", ""),
-        ("$DEF,mk,<$DEF,m,z;>;$mk;$m;", "0 27 1 40 34 2", "z"),
-        ("$DEF,k,<[~1]>;$k,a$DEF,m,z;b;", "0 29 4 34 28 1", "[ab]"),
+        ("$DEF,k,ab;$UPDATE,k,c;$k;$UPDATE,k,xy;$k;", "0 41 3 47 24 1", "cxy"),
+        ("$DEF,k,ab;$UPDATE,k,c;$k;$UPDATE,k,xyz;$k;", "21 39 1 41 25 1", "c"),
+        ("$DEF,k,<$UPDATE,k,a;>;$k;", "20 25 0 37 39 1", ""),
+        ("$DEF,mk,<$DEF,m,z;>;$mk;$m;", "0 27 1 40 35 2", "z"),
+        ("$DEF,k,<[~1]>;$k,a$DEF,m,z;b;", "0 29 4 34 29 1", "[ab]"),
         ("$-,3,5;", "0 7 2 8 10 0", "-2"),
         ("$Quot,-7,2;", "0 11 2 12 14 0", "-4"),
         ("$Rem,-7,2;", "0 10 1 11 13 0", "1"),
@@ -138,7 +139,7 @@ fn table_of_document_01() {
 
 #[test]
 fn table_of_document_01_by_scanning_alone() {
-    check_lent(&[(A, 15, 65_536, "4 18 0 18 15 1"), (A, 16, 2, "0 18 2 22 16 1")]);
+    check_lent(&[(A, 16, 65_536, "4 18 0 18 16 1"), (A, 17, 2, "0 18 2 22 17 1")]);
     check_allowance(&[("", 0, "3 0 0 0 0 0"), ("", 1, "0 0 0 1 0 0")]);
 }
 
@@ -150,7 +151,7 @@ fn lent_over_the_limit() {
         (&long, 0, LIMIT, nothing),
         (A, LIMIT + 1, LIMIT, nothing),
         (A, LIMIT, LIMIT + 1, nothing),
-        (A, LIMIT, LIMIT, "0 18 2 22 16 1"),
+        (A, LIMIT, LIMIT, "0 18 2 22 17 1"),
         (&long[1..], LIMIT, LIMIT, "0 65536 65536 65537 0 0"),
     ]);
     check_allowance(&[(&long, 0, nothing)]);
@@ -159,9 +160,9 @@ fn lent_over_the_limit() {
 #[test]
 fn allowance_used() {
     check_allowance(&[
-        (A, 22, "0 18 2 22 16 1"),
-        (A, 21, "3 18 2 21 16 1"),
-        (A, 19, "3 18 1 19 16 1"),
+        (A, 22, "0 18 2 22 17 1"),
+        (A, 21, "3 18 2 21 17 1"),
+        (A, 19, "3 18 1 19 17 1"),
         (A, 12, "3 12 0 12 13 0"),
         ("p>q", 2, "1 2 1 2 0 0"),
         ("p>q", 1, "3 1 1 1 0 0"),
@@ -173,16 +174,16 @@ fn allowance_used() {
 #[test]
 fn each_fault() {
     check(&[
-        ("$DEF,k,<;>;$a,$k;;", "10 17 0 18 18 1", ""),
+        ("$DEF,k,<;>;$a,$k;;", "10 17 0 18 19 1", ""),
         ("$~1;", "11 2 0 2 4 0", ""),
-        ("$DEF,k,<~X>;$k;", "12 15 0 16 13 1", ""),
-        ("$DEF,k,<~>;$k;", "12 14 0 15 12 1", ""),
-        ("$DEF,k,<~<1>>;$k;", "12 17 0 18 15 1", ""),
-        ("$DEF,k,<~1>;$k;", "13 15 0 16 13 1", ""),
+        ("$DEF,k,<~X>;$k;", "12 15 0 16 14 1", ""),
+        ("$DEF,k,<~>;$k;", "12 14 0 15 13 1", ""),
+        ("$DEF,k,<~<1>>;$k;", "12 17 0 18 16 1", ""),
+        ("$DEF,k,<~1>;$k;", "13 15 0 16 14 1", ""),
         ("$DEF,k;", "13 7 0 7 10 0", ""),
         ("$VAL;", "13 5 0 5 8 0", ""),
         ("$+,x;", "13 5 0 5 8 0", ""),
-        ("$DEF,k,<$j,>;$k;", "14 16 0 20 20 1", ""),
+        ("$DEF,k,<$j,>;$k;", "14 16 0 20 21 1", ""),
         ("$;", "15 2 0 2 5 0", ""),
         ("$VAL,;", "15 6 0 6 9 0", ""),
         ("$UPDATE,j,x;", "15 12 0 12 15 0", ""),
@@ -192,8 +193,8 @@ fn each_fault() {
         ("$a", "18 2 0 3 5 0", ""),
         ("$VAL,DEF;", "19 9 0 9 12 0", ""),
         ("$UPDATE,+,x;", "19 12 0 12 15 0", ""),
-        ("$DEF,k,<$j;>;$DEF,j,<$UPDATE,k,a;>;$k;", "20 38 0 53 52 2", ""),
-        ("$DEF,k,;$UPDATE,k,x;", "21 20 0 20 20 1", ""),
+        ("$DEF,k,<$j;>;$DEF,j,<$UPDATE,k,a;>;$k;", "20 38 0 53 54 2", ""),
+        ("$DEF,k,;$UPDATE,k,x;", "21 20 0 20 21 1", ""),
         ("$+,x,1;", "22 7 0 7 10 0", ""),
         ("$Rem,x,0;", "22 9 0 9 12 0", ""),
         ("$Rem,0,x;", "22 9 0 9 12 0", ""),
@@ -206,8 +207,8 @@ fn each_fault() {
 fn order_of_checks_at_the_semicolon() {
     let val = "$DEF,k,abc;$a,$VAL,k;;";
     check_lent(&[
-        // 10 before the 4 of the own cell: the charge stands at 18 there.
-        ("$DEF,k,<;>;$a,$k;;", 18, 0, "10 17 0 18 18 1"),
+        // 10 before the 4 of the own cell: the charge stands at 19 there.
+        ("$DEF,k,<;>;$a,$k;;", 19, 0, "10 17 0 18 19 1"),
         // The 4 of the own cell before 15, 13 and the built-in's.
         ("$j;", 5, 0, "4 3 0 3 5 0"),
         ("$j;", 6, 0, "15 3 0 3 6 0"),
@@ -219,12 +220,12 @@ fn order_of_checks_at_the_semicolon() {
         ("$Rem,1,0;", 12, 0, "23 9 0 9 12 0"),
         ("$a,$VAL,j;;", 16, 0, "15 10 0 10 16 0"),
         // The own cell was allowed, the result beside it was not.
-        (val, 23, 0, "4 21 0 21 23 1"),
         (val, 24, 0, "4 21 0 21 24 1"),
-        (val, 26, 0, "4 21 0 21 24 1"),
-        (val, 27, 0, "15 22 0 22 27 1"),
-        ("$DEF,k,abc;$VAL,k;", 18, 2, "5 18 0 18 18 1"),
-        ("$DEF,k,abc;$VAL,k;", 18, 3, "0 18 3 19 18 1"),
+        (val, 25, 0, "4 21 0 21 25 1"),
+        (val, 27, 0, "4 21 0 21 25 1"),
+        (val, 28, 0, "15 22 0 22 28 1"),
+        ("$DEF,k,abc;$VAL,k;", 19, 2, "5 18 0 18 19 1"),
+        ("$DEF,k,abc;$VAL,k;", 19, 3, "0 18 3 19 19 1"),
         ("$-,3,5;", 10, 1, "5 7 0 7 10 0"),
         ("$-,3,5;", 10, 2, "0 7 2 8 10 0"),
     ]);
@@ -235,21 +236,21 @@ fn order_of_checks_at_the_tilde() {
     // Cells enough up to the `~`, and none for what it fetches.
     check_lent(&[
         ("$a~", 5, 0, "11 3 0 3 5 0"),
-        ("$DEF,k,<~X>;$a,$k;;", 19, 0, "12 18 0 19 19 1"),
-        ("$DEF,k,<~1>;$a,$k;;", 19, 0, "13 18 0 19 19 1"),
-        ("$DEF,k,<~0>;$a,$k;;", 19, 0, "4 18 0 19 19 1"),
-        ("$DEF,k,<~X>;$k;", 13, 0, "12 15 0 16 13 1"),
-        ("$DEF,k,<~1>;$k;", 13, 0, "13 15 0 16 13 1"),
-        ("$DEF,k,<~0>;$k;", 13, 0, "5 15 0 16 13 1"),
+        ("$DEF,k,<~X>;$a,$k;;", 20, 0, "12 18 0 19 20 1"),
+        ("$DEF,k,<~1>;$a,$k;;", 20, 0, "13 18 0 19 20 1"),
+        ("$DEF,k,<~0>;$a,$k;;", 20, 0, "4 18 0 19 20 1"),
+        ("$DEF,k,<~X>;$k;", 14, 0, "12 15 0 16 14 1"),
+        ("$DEF,k,<~1>;$k;", 14, 0, "13 15 0 16 14 1"),
+        ("$DEF,k,<~0>;$k;", 14, 0, "5 15 0 16 14 1"),
         // A copy goes through whole or not at all.
-        ("$DEF,k,<~1>;$k,abc;", 65_536, 2, "5 19 0 20 17 1"),
-        ("$DEF,k,<~1>;$k,abc;", 65_536, 3, "0 19 3 22 17 1"),
-        ("$DEF,k,<~1>;$a,$k,bcd;;", 25, 0, "4 22 0 23 23 1"),
+        ("$DEF,k,<~1>;$k,abc;", 65_536, 2, "5 19 0 20 18 1"),
+        ("$DEF,k,<~1>;$k,abc;", 65_536, 3, "0 19 3 22 18 1"),
+        ("$DEF,k,<~1>;$a,$k,bcd;;", 26, 0, "4 22 0 23 24 1"),
         // At a letter, in the same order.
-        ("$DEF,k,<~a>;$a,$k;;", 19, 0, "13 18 0 19 19 1"),
-        ("$DEF,k,<~a>;$a,$k,,,,,,,,,,bcd;;", 34, 0, "4 31 0 32 32 1"),
-        ("$DEF,k,<~a>;$k,,,,,,,,,,abc;", 65_536, 2, "5 28 0 29 26 1"),
-        ("$DEF,k,<~a>;$k,,,,,,,,,,abc;", 65_536, 3, "0 28 3 31 26 1"),
+        ("$DEF,k,<~a>;$a,$k;;", 20, 0, "13 18 0 19 20 1"),
+        ("$DEF,k,<~a>;$a,$k,,,,,,,,,,bcd;;", 35, 0, "4 31 0 32 33 1"),
+        ("$DEF,k,<~a>;$k,,,,,,,,,,abc;", 65_536, 2, "5 28 0 29 27 1"),
+        ("$DEF,k,<~a>;$k,,,,,,,,,,abc;", 65_536, 3, "0 28 3 31 27 1"),
     ]);
 }
 
@@ -292,9 +293,9 @@ fn quotes() {
     check(&[
         ("<<a>>", "0 5 3 6 0 0", "<a>"),
         ("<<<>>>$j", "18 8 4 9 5 0", "<<>>"),
-        ("$DEF,k,<<~1>>;$k;", "0 17 2 23 15 1", "~1"),
+        ("$DEF,k,<<~1>>;$k;", "0 17 2 23 16 1", "~1"),
         ("<$j;~1,>", "0 8 6 9 0 0", "$j;~1,"),
-        ("$DEF,k,<<<a>>;>;$k;", "10 19 3 25 17 1", "<a>"),
+        ("$DEF,k,<<<a>>;>;$k;", "10 19 3 25 18 1", "<a>"),
     ]);
     check_outcomes(&[
         ("$DEF,k,<a<>>;$k;>", 1, "a"),
@@ -318,11 +319,11 @@ fn signs_in_the_text() {
 fn parameters() {
     check(&[
         // Surplus parameters are ignored.
-        ("$DEF,k,v,w;$VAL,k,z;", "0 20 1 21 18 1", "v"),
+        ("$DEF,k,v,w;$VAL,k,z;", "0 20 1 21 19 1", "v"),
         ("$+,1,2,x;", "0 9 1 10 12 0", "3"),
-        ("$DEF,k,<~0~2>;$k,a,b,c;", "0 23 2 27 21 1", "kb"),
+        ("$DEF,k,<~0~2>;$k,a,b,c;", "0 23 2 27 22 1", "kb"),
         // A fetched parameter is not scanned again.
-        ("$DEF,k,<~1>;$k,<$j;>;", "0 21 3 24 17 1", "$j;"),
+        ("$DEF,k,<~1>;$k,<$j;>;", "0 21 3 24 18 1", "$j;"),
     ]);
     // In a list begun in a body, `~` still fetches that body's parameters.
     check_outcomes(&[("$DEF,j,<[~1]>;$DEF,k,<$j,~2~1;>;$k,a,b;", 0, "[ba]")]);
@@ -333,14 +334,14 @@ fn table_of_request_one() {
     let numbers: Vec<String> = (1..=35).map(|number| number.to_string()).collect();
     let last = format!("$DEF,k,<~z>;$k,{};", numbers.join(","));
     check(&[
-        ("$DEF,k,<~a~b>;$k,1,2,3,4,5,6,7,8,9,A,B;", "0 39 2 43 37 1", "AB"),
-        (&last, "0 111 2 114 109 1", "35"),
-        ("$DEF,k,<~a>;$k,1;", "13 17 0 18 15 1", ""),
-        ("$DEF,k,<~A>;$k,1;", "12 17 0 18 15 1", ""),
-        ("$DEF,k,<~{>;$k,1;", "12 17 0 18 15 1", ""),
-        ("$DEF,k,<<~>a>;$k;", "0 17 2 23 15 1", "~a"),
-        ("$DEF,m,<~><a>;$m;", "13 17 0 18 13 1", ""),
-        ("$DEF,m,<<~><a>>;$m;", "0 19 2 27 17 1", "~a"),
+        ("$DEF,k,<~a~b>;$k,1,2,3,4,5,6,7,8,9,A,B;", "0 39 2 43 38 1", "AB"),
+        (&last, "0 111 2 114 110 1", "35"),
+        ("$DEF,k,<~a>;$k,1;", "13 17 0 18 16 1", ""),
+        ("$DEF,k,<~A>;$k,1;", "12 17 0 18 16 1", ""),
+        ("$DEF,k,<~{>;$k,1;", "12 17 0 18 16 1", ""),
+        ("$DEF,k,<<~>a>;$k;", "0 17 2 23 16 1", "~a"),
+        ("$DEF,m,<~><a>;$m;", "13 17 0 18 14 1", ""),
+        ("$DEF,m,<<~><a>>;$m;", "0 19 2 27 18 1", "~a"),
         ("~a", "0 2 2 3 0 0", "~a"),
     ]);
 }
@@ -349,9 +350,9 @@ fn table_of_request_one() {
 fn letters_for_parameters_past_nine() {
     check(&[
         // Two digits are a digit that fetches and a plain one.
-        ("$DEF,k,<~10>;$k,x;", "0 18 2 22 16 1", "x0"),
-        ("$DEF,k,<~`>;$k;", "12 15 0 16 13 1", ""),
-        ("$DEF,k,<~<a>>;$k;", "12 17 0 18 15 1", ""),
+        ("$DEF,k,<~10>;$k,x;", "0 18 2 22 17 1", "x0"),
+        ("$DEF,k,<~`>;$k;", "12 15 0 16 14 1", ""),
+        ("$DEF,k,<~<a>>;$k;", "12 17 0 18 16 1", ""),
         ("$k,~a;", "11 4 0 4 6 0", ""),
     ]);
     check_outcomes(&[
@@ -418,12 +419,12 @@ fn scripts_without_letters_expand_as_before() {
 fn definitions_go_with_the_list() {
     check(&[
         // Made in an argument, in DEF's own list, in VAL's and in UPDATE's.
-        ("$DEF,k,;$k,$DEF,m,z;;$m;", "15 24 0 25 23 1", ""),
+        ("$DEF,k,;$k,$DEF,m,z;;$m;", "15 24 0 25 24 1", ""),
         ("$DEF,k$DEF,m,z;,v;$m;", "15 21 0 21 21 1", ""),
         ("$VAL,k$DEF,k,z;;", "0 16 1 17 21 0", "z"),
-        ("$DEF,k,ab;$UPDATE,k,c$DEF,k,d;;$k;", "0 34 2 38 33 1", "ab"),
+        ("$DEF,k,ab;$UPDATE,k,c$DEF,k,d;;$k;", "0 34 2 38 34 1", "ab"),
         // Made in a body they stay, but go with the list that the body was read for.
-        ("$DEF,mk,<$DEF,m,z;>;$DEF,k,;$k,$mk;;$m;", "15 39 0 50 45 2", ""),
+        ("$DEF,mk,<$DEF,m,z;>;$DEF,k,;$k,$mk;;$m;", "15 39 0 50 47 2", ""),
     ]);
     assert_eq!(standing("$DEF,k$DEF,m,z;,v;$m;"), [is("k", "v", 1)]);
     // A list's definitions go from beneath those of its body.
@@ -442,7 +443,7 @@ fn definitions_before_a_refused_scan() {
     check(&[
         ("$x,$DEF,m,z;;", "15 13 0 13 18 1", ""),
         ("$VAL,j$DEF,m,z;;", "15 16 0 16 21 1", ""),
-        ("$DEF,k,<$j>;$k,$DEF,m,z;;", "14 25 0 28 25 2", ""),
+        ("$DEF,k,<$j>;$k,$DEF,m,z;;", "14 25 0 28 27 2", ""),
     ]);
 }
 
@@ -477,20 +478,20 @@ fn charges(script: &str) -> Vec<usize> {
 
 #[test]
 fn charge_rises_and_falls() {
-    // DEF's list of 15 becomes a definition of 9, which UPDATE leaves at 9.
+    // DEF's list of 15 becomes a definition of 10, which UPDATE leaves at 10.
     let charges = charges("$DEF,k,abcd;$UPDATE,k,x;a");
-    assert_eq!(charges[..13], [4, 5, 6, 7, 8, 9, 10, 11, 12, 13, 14, 9, 13]);
-    assert_eq!(charges[22..], [23, 9, 9, 9]);
+    assert_eq!(charges[..13], [4, 5, 6, 7, 8, 9, 10, 11, 12, 13, 14, 10, 14]);
+    assert_eq!(charges[22..], [24, 10, 10, 10]);
 }
 
 #[test]
 fn results_are_charged_before_the_list_goes() {
     check(&[
-        // Collected: 8 for k, 6 for `$a,`, 10 for VAL's list and 3.
-        ("$DEF,k,abc;$a,$VAL,k;;", "15 22 0 22 27 1", ""),
+        // Collected: 9 for k, 6 for `$a,`, 10 for VAL's list and 3.
+        ("$DEF,k,abc;$a,$VAL,k;;", "15 22 0 22 28 1", ""),
         ("$a,$-,3,5;;", "15 11 0 11 18 0", ""),
         // Not collected.
-        ("$DEF,k,abc;$VAL,k;", "0 18 3 19 18 1", "abc"),
+        ("$DEF,k,abc;$VAL,k;", "0 18 3 19 19 1", "abc"),
     ]);
 }
 
@@ -534,7 +535,7 @@ fn no_end_within_the_bounds() {
     let least = Bounds {
         depth: 1,
         scans: 22,
-        charge: 16,
+        charge: 17,
         output: 2,
     };
     assert_eq!(substituted(A, &least), Some(end(A)));

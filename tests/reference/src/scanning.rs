@@ -218,9 +218,10 @@ impl Call {
 }
 
 impl Definition {
-    /// "A live definition is charged name length + defined value length + 4."
+    /// "A live definition is charged name length + defined value length + 4"; by request Thirteen "A definition is charged
+    /// 5 in place of 4".
     fn charge(&self) -> usize {
-        self.name.len() + self.defined + 4
+        self.name.len() + self.defined + 5
     }
 }
 
@@ -517,7 +518,7 @@ impl Machine<'_> {
         }
     }
 
-    /// "DEF's list is exchanged for the definition", which is at least six cells cheaper: the list has the cells of
+    /// "DEF's list is exchanged for the definition", which is at least five cells cheaper: the list has the cells of
     /// `$DEF`, two commas and `;` beside name and value. So there is no 4 here and no new highest. Request Five: "33 ...
     /// for an empty name at DEF, after 13 and before anything is defined".
     fn def(&mut self) -> Scanned {
@@ -765,6 +766,11 @@ impl Row<'_> {
     pub fn newest(&self, name: &[u8]) -> Option<u64> {
         let newest = self.machine.definitions.iter().rfind(|it| it.name == name);
         newest.map(|definition| definition.made)
+    }
+
+    /// The scans that made the live definitions, newest last.
+    pub fn made(&self) -> impl ExactSizeIterator<Item = u64> + '_ {
+        self.machine.definitions.iter().map(|definition| definition.made)
     }
 
     /// Whether the definition that a scan made is live.

@@ -104,11 +104,11 @@ struct Definition {
 }
 
 impl Definition {
-    /// "name length + defined value length + 4"; "Built-ins cost nothing."
+    /// "name length + defined value length + 4", by request Thirteen "5 in place of 4"; "Built-ins cost nothing."
     fn cost(&self) -> usize {
         match self.value {
             Value::BuiltIn(_) => 0,
-            Value::Text(_) => self.name.len() + self.defined + 4,
+            Value::Text(_) => self.name.len() + self.defined + 5,
         }
     }
 }

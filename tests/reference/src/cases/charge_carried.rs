@@ -85,10 +85,10 @@ impl Carried {
         }
     }
 
-    /// "A live definition is charged name length + defined value length + 4."
+    /// "A live definition is charged name length + defined value length + 4", by request Thirteen "5 in place of 4".
     fn defines(&mut self, row: &Row) {
         let (name, defined) = row.definitions().last().expect("the definition made");
-        let charge = name.len() + defined + 4;
+        let charge = name.len() + defined + 5;
         self.raise(charge);
         self.definitions += 1;
         if let Some(list) = self.open.last_mut() {
@@ -180,27 +180,27 @@ fn check_charges(pieces: &[(&str, &[usize])]) {
 #[test]
 fn definition_in_the_list_of_val() {
     check_charges(&[
-        // The list of 13 with its `;` is exchanged for 1 + 2 + 4.
-        ("$DEF,k,ab;", &[4, 5, 6, 7, 8, 9, 10, 11, 12, 7]),
-        ("$i,$VAL,k", &[11, 12, 13, 17, 18, 19, 20, 21, 22]),
-        // 34 with its `;`, then 12 fewer for the list and 6 more for the definition.
-        ("$DEF,m,c;", &[26, 27, 28, 29, 30, 31, 32, 33, 28]),
-        // 29, then 31 with the result that `$i,` collects; the list of 10 goes, and with it the definition of 6.
-        (";", &[15]),
-        ("x", &[16]),
-        ("", &[16]),
+        // The list of 13 with its `;` is exchanged for 1 + 2 + 5.
+        ("$DEF,k,ab;", &[4, 5, 6, 7, 8, 9, 10, 11, 12, 8]),
+        ("$i,$VAL,k", &[12, 13, 14, 18, 19, 20, 21, 22, 23]),
+        // 35 with its `;`, then 12 fewer for the list and 7 more for the definition.
+        ("$DEF,m,c;", &[27, 28, 29, 30, 31, 32, 33, 34, 30]),
+        // 31, then 33 with the result that `$i,` collects; the list of 10 goes, and with it the definition of 7.
+        (";", &[16]),
+        ("x", &[17]),
+        ("", &[17]),
     ]);
 }
 
 #[test]
 fn freed_cells_serve_again() {
     let script = format!("$DEF,k,ab;$i,$VAL,k$DEF,m,c;;{}", "x".repeat(20));
-    // 33 are one too few for the `;` of the inner DEF. 34 suffice there; the list and the definition that go free 16 of
+    // 34 are one too few for the `;` of the inner DEF. 35 suffice there; the list and the definition that go free 17 of
     // them, 2 of them serve for the result, and the twentieth `x` would be the cell after the last.
     check_lent(&[
-        (&script, 33, 0, "4 28 0 28 33 1"),
-        (&script, 34, 0, "4 49 0 49 34 1"),
-        (&script, 35, 0, "18 49 0 50 35 1"),
+        (&script, 34, 0, "4 28 0 28 34 1"),
+        (&script, 35, 0, "4 49 0 49 35 1"),
+        (&script, 36, 0, "18 49 0 50 36 1"),
     ]);
 }
 
@@ -209,40 +209,40 @@ fn definitions_in_a_list_and_in_its_body() {
     check_charges(&[
         ("$DEF,k,<", &[4, 5, 6, 7, 8, 9, 10, 10]),
         ("x$DEF,m,c;", &[11, 12, 13, 14, 15, 16, 17, 18, 19, 20]),
-        // 1 + 10 + 4.
-        (">;", &[20, 15]),
-        ("$k,", &[19, 20, 21]),
-        ("$DEF,n,d;", &[25, 26, 27, 28, 29, 30, 31, 32, 27]),
-        // The list stays charged while its body is read: `x` is written, then DEF makes a definition of 6 in the place
-        // of its list of 12. At the end the list of 7 goes and the definition of 6 made in it; the body's own stays.
-        (";", &[28, 28, 32, 33, 34, 35, 36, 37, 38, 39, 34, 21]),
-        ("", &[21]),
+        // 1 + 10 + 5.
+        (">;", &[20, 16]),
+        ("$k,", &[20, 21, 22]),
+        ("$DEF,n,d;", &[26, 27, 28, 29, 30, 31, 32, 33, 29]),
+        // The list stays charged while its body is read: `x` is written, then DEF makes a definition of 7 in the place
+        // of its list of 12. At the end the list of 7 goes and the definition of 7 made in it; the body's own stays.
+        (";", &[30, 30, 34, 35, 36, 37, 38, 39, 40, 41, 37, 23]),
+        ("", &[23]),
     ]);
 }
 
 #[test]
 fn definition_updated_in_the_list_of_update() {
     check_charges(&[
-        ("$DEF,k,abc;", &[4, 5, 6, 7, 8, 9, 10, 11, 12, 13, 8]),
-        ("$UPDATE,k", &[12, 13, 14, 15, 16, 17, 18, 19, 20]),
-        ("$DEF,k,z;", &[24, 25, 26, 27, 28, 29, 30, 31, 26]),
-        // The newest `k` gets an empty value and stays charged by its defined one: 6 go, and the list of 14.
-        (",;", &[27, 8]),
-        ("a", &[8]),
-        ("", &[8]),
+        ("$DEF,k,abc;", &[4, 5, 6, 7, 8, 9, 10, 11, 12, 13, 9]),
+        ("$UPDATE,k", &[13, 14, 15, 16, 17, 18, 19, 20, 21]),
+        ("$DEF,k,z;", &[25, 26, 27, 28, 29, 30, 31, 32, 28]),
+        // The newest `k` gets an empty value and stays charged by its defined one: 7 go, and the list of 14.
+        (",;", &[29, 9]),
+        ("a", &[9]),
+        ("", &[9]),
     ]);
 }
 
 #[test]
 fn shorter_value_is_charged_by_the_defined_one() {
     check_charges(&[
-        ("$DEF,k,abc;", &[4, 5, 6, 7, 8, 9, 10, 11, 12, 13, 8]),
-        // The list of 13 goes, and the definition is charged 8 as before.
-        ("$UPDATE,k,z;", &[12, 13, 14, 15, 16, 17, 18, 19, 20, 21, 22, 8]),
-        ("$e,", &[12, 13, 14]),
+        ("$DEF,k,abc;", &[4, 5, 6, 7, 8, 9, 10, 11, 12, 13, 9]),
+        // The list of 13 goes, and the definition is charged 9 as before.
+        ("$UPDATE,k,z;", &[13, 14, 15, 16, 17, 18, 19, 20, 21, 22, 23, 9]),
+        ("$e,", &[13, 14, 15]),
         // The result is the value of one byte.
-        ("$VAL,k;", &[18, 19, 20, 21, 22, 23, 15]),
-        ("", &[15]),
+        ("$VAL,k;", &[19, 20, 21, 22, 23, 24, 16]),
+        ("", &[16]),
     ]);
 }
 
@@ -250,11 +250,11 @@ fn shorter_value_is_charged_by_the_defined_one() {
 fn parameters_and_a_comma_out_of_a_body() {
     check_charges(&[
         ("$DEF,k,<", &[4, 5, 6, 7, 8, 9, 10, 10]),
-        ("~1,~0>;", &[11, 12, 13, 14, 15, 15, 10]),
-        ("$e,$k,abc", &[14, 15, 16, 20, 21, 22, 23, 24, 25]),
+        ("~1,~0>;", &[11, 12, 13, 14, 15, 15, 11]),
+        ("$e,$k,abc", &[15, 16, 17, 21, 22, 23, 24, 25, 26]),
         // Its own cell; then parameter 1 of three bytes, the comma, the name, and the list of 10 goes.
-        (";", &[26, 29, 30, 31, 21]),
-        ("", &[21]),
+        (";", &[27, 30, 31, 32, 22]),
+        ("", &[22]),
     ]);
 }
 
@@ -262,9 +262,9 @@ fn parameters_and_a_comma_out_of_a_body() {
 fn definition_in_the_list_of_arithmetic() {
     check_charges(&[
         ("$-,3", &[4, 5, 6, 7]),
-        ("$DEF,m,c;", &[11, 12, 13, 14, 15, 16, 17, 18, 13]),
-        // The result is written and not charged; the list of 10 goes and the definition of 6.
-        (",5;", &[14, 15, 0]),
+        ("$DEF,m,c;", &[11, 12, 13, 14, 15, 16, 17, 18, 14]),
+        // The result is written and not charged; the list of 10 goes and the definition of 7.
+        (",5;", &[15, 16, 0]),
         ("", &[0]),
     ]);
     check_charges(&[
@@ -278,12 +278,12 @@ fn definition_in_the_list_of_arithmetic() {
 fn definition_in_the_list_of_def() {
     check_charges(&[
         ("$a,$DEF,m,", &[4, 5, 6, 10, 11, 12, 13, 14, 15, 16]),
-        ("$DEF,n,x;", &[20, 21, 22, 23, 24, 25, 26, 27, 22]),
-        // 24; the list of 12 goes and `n` with 6, and `m` comes with 6.
-        ("y;", &[23, 12]),
-        // An empty value: the list of 11 is exchanged for 5.
-        ("$DEF,o,;", &[16, 17, 18, 19, 20, 21, 22, 17]),
+        ("$DEF,n,x;", &[20, 21, 22, 23, 24, 25, 26, 27, 23]),
+        // 25; the list of 12 goes and `n` with 7, and `m` comes with 7.
+        ("y;", &[24, 13]),
+        // An empty value: the list of 11 is exchanged for 6.
+        ("$DEF,o,;", &[17, 18, 19, 20, 21, 22, 23, 19]),
         // Two definitions stand in the list of a call that is not defined, and none of them goes.
-        (";", &[17]),
+        (";", &[19]),
     ]);
 }

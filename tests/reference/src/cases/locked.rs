@@ -11,22 +11,22 @@ fn table_of_request_nine() {
     check(&[
         (
             "$DEF,s,100;$LOCK,s;$s;$VAL,s;$DEF,s,200;$UPDATE,s,300;$s;",
-            "0 57 9 66 33 2",
+            "0 57 9 66 35 2",
             "100100300",
         ),
-        ("$DEF,s,100;$LOCK,s;$LOCK,s;$UPDATE,s,1;", "36 39 0 39 23 1", ""),
-        ("$DEF,s,<$UPDATE,s,;>;$LOCK,s;$s;", "36 32 0 43 36 1", ""),
-        ("$DEF,s,1;$LOCK,s;$UPDATE,s,22;", "36 30 0 30 22 1", ""),
+        ("$DEF,s,100;$LOCK,s;$LOCK,s;$UPDATE,s,1;", "36 39 0 39 24 1", ""),
+        ("$DEF,s,<$UPDATE,s,;>;$LOCK,s;$s;", "36 32 0 43 37 1", ""),
+        ("$DEF,s,1;$LOCK,s;$UPDATE,s,22;", "36 30 0 30 23 1", ""),
         ("$LOCK,DEF;", "19 10 0 10 13 0", ""),
         ("$LOCK,x;", "15 8 0 8 11 0", ""),
         ("$LOCK;", "13 6 0 6 9 0", ""),
         (
             "$DEF,s,1;$LOCK,s;$k,$DEF,s,2;$DEF,k,<$UPDATE,s,3;$s;>;;$UPDATE,s,4;",
-            "36 67 1 85 54 1",
+            "36 67 1 85 57 1",
             "3",
         ),
-        ("$DEF,s,<$LOCK,s;x>;$s;$UPDATE,s,y;", "36 34 1 44 31 1", "x"),
-        ("$DEF,s,1;$LOCK,s$DEF,s,2;;$UPDATE,s,3;$s;", "0 41 1 44 28 1", "3"),
+        ("$DEF,s,<$LOCK,s;x>;$s;$UPDATE,s,y;", "36 34 1 44 32 1", "x"),
+        ("$DEF,s,1;$LOCK,s$DEF,s,2;;$UPDATE,s,3;$s;", "0 41 1 44 29 1", "3"),
     ]);
 }
 
@@ -94,14 +94,14 @@ fn order_of_checks_of_update() {
         ("$DEF,s,1;$LOCK,s;$DEF,s,1;$UPDATE,s,22;", 21, ""),
     ]);
     check_lent(&[
-        // The 4 of the own cell before 36, and 10 before that: the charge stands at 31 there.
-        ("$DEF,s,1;$LOCK,s;$UPDATE,s,22;", 21, 0, "4 30 0 30 21 1"),
-        ("$DEF,s,1;$LOCK,s;$UPDATE,s,22;", 22, 0, "36 30 0 30 22 1"),
-        ("$DEF,s,1;$LOCK,s;$DEF,p,<;>;$UPDATE,s,$p;;", 31, 0, "10 41 0 42 31 2"),
+        // The 4 of the own cell before 36, and 10 before that: the charge stands at 33 there.
+        ("$DEF,s,1;$LOCK,s;$UPDATE,s,22;", 22, 0, "4 30 0 30 22 1"),
+        ("$DEF,s,1;$LOCK,s;$UPDATE,s,22;", 23, 0, "36 30 0 30 23 1"),
+        ("$DEF,s,1;$LOCK,s;$DEF,p,<;>;$UPDATE,s,$p;;", 33, 0, "10 41 0 42 33 2"),
     ]);
     check_allowance(&[
-        ("$DEF,s,1;$LOCK,s;$UPDATE,s,22;", 30, "36 30 0 30 22 1"),
-        ("$DEF,s,1;$LOCK,s;$UPDATE,s,22;", 29, "3 29 0 29 21 1"),
+        ("$DEF,s,1;$LOCK,s;$UPDATE,s,22;", 30, "36 30 0 30 23 1"),
+        ("$DEF,s,1;$LOCK,s;$UPDATE,s,22;", 29, "3 29 0 29 22 1"),
     ]);
 }
 
@@ -114,8 +114,8 @@ fn order_of_checks_of_lock() {
         ("$VAL,LOCK;", "19 10 0 10 13 0", ""),
         ("$UPDATE,LOCK,x;", "19 15 0 15 18 0", ""),
         ("$LOCK,+,s;", "19 10 0 10 13 0", ""),
-        // 6 for s, 11 for the list of LOCK.
-        ("$DEF,s,1;$LOCK,s;", "0 17 0 18 17 1", ""),
+        // 7 for s, 11 for the list of LOCK.
+        ("$DEF,s,1;$LOCK,s;", "0 17 0 18 18 1", ""),
     ]);
     check_lent(&[
         ("$LOCK;", 8, 0, "4 6 0 6 8 0"),
@@ -124,17 +124,17 @@ fn order_of_checks_of_lock() {
         ("$LOCK,x;", 11, 0, "15 8 0 8 11 0"),
         ("$LOCK,DEF;", 12, 0, "4 10 0 10 12 0"),
         ("$LOCK,DEF;", 13, 0, "19 10 0 10 13 0"),
-        ("$DEF,s,1;$LOCK,s;", 16, 0, "4 17 0 17 16 1"),
+        ("$DEF,s,1;$LOCK,s;", 17, 0, "4 17 0 17 17 1"),
         // It has no result, so that neither 4 nor 5 comes for one.
-        ("$DEF,s,1;$LOCK,s;", 17, 0, "0 17 0 18 17 1"),
-        ("$DEF,s,1;$SIZE,$LOCK,s;;", 25, 1, "4 23 0 23 25 1"),
-        ("$DEF,s,1;$SIZE,$LOCK,s;;", 26, 1, "0 24 1 25 26 1"),
-        ("$DEF,p,<;>;$DEF,s,1;$LOCK,s$p;;", 28, 0, "10 30 0 31 28 2"),
+        ("$DEF,s,1;$LOCK,s;", 18, 0, "0 17 0 18 18 1"),
+        ("$DEF,s,1;$SIZE,$LOCK,s;;", 26, 1, "4 23 0 23 26 1"),
+        ("$DEF,s,1;$SIZE,$LOCK,s;;", 27, 1, "0 24 1 25 27 1"),
+        ("$DEF,p,<;>;$DEF,s,1;$LOCK,s$p;;", 30, 0, "10 30 0 31 30 2"),
     ]);
     check_allowance(&[
-        ("$DEF,s,1;$LOCK,s;", 16, "3 16 0 16 16 1"),
-        ("$DEF,s,1;$LOCK,s;", 17, "3 17 0 17 17 1"),
-        ("$DEF,s,1;$LOCK,s;", 18, "0 17 0 18 17 1"),
+        ("$DEF,s,1;$LOCK,s;", 16, "3 16 0 16 17 1"),
+        ("$DEF,s,1;$LOCK,s;", 17, "3 17 0 17 18 1"),
+        ("$DEF,s,1;$LOCK,s;", 18, "0 17 0 18 18 1"),
     ]);
     check_outcomes(&[("$lock,x;", 15, ""), ("$LOC,x;", 15, ""), ("$LOCKS,x;", 15, "")]);
     // 15 and 19 leave the mark of others as it is, and no mark comes of them.
@@ -393,9 +393,9 @@ fn definitions_standing_at_36() {
         ),
     ]);
     check(&[
-        ("$DEF,s,1;$LOCK,s;$UPDATE,s$DEF,t,3;,2;", "36 38 0 38 30 2", ""),
-        // In a body: s has 6, m 17, its call 6, UPDATE's list 15.
-        ("$DEF,s,1;$LOCK,s;$DEF,m,<$UPDATE,s,2;>;$m;", "36 42 0 54 44 2", ""),
+        ("$DEF,s,1;$LOCK,s;$UPDATE,s$DEF,t,3;,2;", "36 38 0 38 31 2", ""),
+        // In a body: s has 7, m 18, its call 6, UPDATE's list 15.
+        ("$DEF,s,1;$LOCK,s;$DEF,m,<$UPDATE,s,2;>;$m;", "36 42 0 54 46 2", ""),
     ]);
 }
 
@@ -418,23 +418,23 @@ fn charge_of_a_mark() {
     let locked = charges("$DEF,s,1;$LOCK,s;$LOCK,s;x");
     assert_eq!(
         locked[8..],
-        [6, 10, 11, 12, 13, 14, 15, 16, 6, 10, 11, 12, 13, 14, 15, 16, 6, 6, 6]
+        [7, 11, 12, 13, 14, 15, 16, 17, 7, 11, 12, 13, 14, 15, 16, 17, 7, 7, 7]
     );
     assert_eq!(locked, charges("$DEF,s,1;$SIZE,s;$SIZE,s;x"));
-    // A definition of its list goes with it: 6 for s, 10 for `$LOCK,s`, and 6.
-    assert_eq!(charges("$DEF,s,1;$LOCK,s$DEF,t,2;;")[23..], [27, 22, 6, 6]);
+    // A definition of its list goes with it: 7 for s, 10 for `$LOCK,s`, and 7.
+    assert_eq!(charges("$DEF,s,1;$LOCK,s$DEF,t,2;;")[23..], [28, 24, 7, 7]);
 }
 
 #[test]
 fn under_other_signs() {
     let table = Table::accepted(&lent(b"#|:%[]"));
     for (script, report) in [
-        (&b"#DEF|s|1:#LOCK|s:#UPDATE|s|22:"[..], "36 30 0 30 22 1"),
-        (b"#DEF|s|[#UPDATE|s|:]:#LOCK|s:#s:", "36 32 0 43 36 1"),
+        (&b"#DEF|s|1:#LOCK|s:#UPDATE|s|22:"[..], "36 30 0 30 23 1"),
+        (b"#DEF|s|[#UPDATE|s|:]:#LOCK|s:#s:", "36 32 0 43 37 1"),
         (b"#LOCK|DEF:", "19 10 0 10 13 0"),
         (b"#LOCK|x:", "15 8 0 8 11 0"),
         (b"#LOCK:", "13 6 0 6 9 0"),
-        (b"#DEF|,|1:#LOCK|,:#UPDATE|,|2:", "36 29 0 29 21 1"),
+        (b"#DEF|,|1:#LOCK|,:#UPDATE|,|2:", "36 29 0 29 22 1"),
         (b"$LOCK,x;", "0 8 8 9 0 0"),
     ] {
         let end = run_signs(&table, script, &Lent::PROGRAM);

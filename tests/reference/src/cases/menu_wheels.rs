@@ -304,13 +304,13 @@ fn one_step_from_every_entry() {
 fn place_that_is_updated() {
     let wheel = "$DEF,o,0;$DEF,u,<$UPDATE,o,$Rem,$-,$o;,1;,8;;>;";
     check(&[
-        (&format!("{wheel}$u;$o;"), "0 53 1 87 79 2", "7"),
-        (&format!("{wheel}$u;$o;$u;$o;"), "0 59 2 126 79 2", "76"),
+        (&format!("{wheel}$u;$o;"), "0 53 1 87 81 2", "7"),
+        (&format!("{wheel}$u;$o;$u;$o;"), "0 59 2 126 81 2", "76"),
     ]);
     check_lent(&[
-        (&format!("{wheel}$u;$o;"), 79, 1, "0 53 1 87 79 2"),
-        (&format!("{wheel}$u;$o;"), 78, 1, "4 50 0 72 78 2"),
-        (&format!("{wheel}$u;$o;"), 79, 0, "5 53 0 85 79 2"),
+        (&format!("{wheel}$u;$o;"), 81, 1, "0 53 1 87 81 2"),
+        (&format!("{wheel}$u;$o;"), 80, 1, "4 50 0 72 80 2"),
+        (&format!("{wheel}$u;$o;"), 81, 0, "5 53 0 85 81 2"),
     ]);
     let place = &standing(&format!("{wheel}$u;$u;$u;"))[1];
     assert_eq!((place.0.as_str(), place.1.as_str(), place.2), ("o", "5", 1));

@@ -16,7 +16,7 @@ fn table_of_request_five() {
         ("$DEF,;", "13 6 0 6 9 0", ""),
         ("$VAL,;", "15 6 0 6 9 0", ""),
         ("$UPDATE,,x;", "15 11 0 11 14 0", ""),
-        ("$DEF,e,;ab$DEF,$e;,x;", "33 21 2 22 19 1", "ab"),
+        ("$DEF,e,;ab$DEF,$e;,x;", "33 21 2 22 20 1", "ab"),
     ]);
 }
 
@@ -37,13 +37,13 @@ fn empty_names() {
         ("$DEF,<>,x;", "33 10 0 10 11 0", ""),
         // By IF, by VAL of an empty value, by UPDATE, and by a definition in the name, which gives nothing and stands.
         ("$DEF,$IF,0,y;,x;", "33 16 0 16 19 0", ""),
-        ("$DEF,e,;$DEF,$VAL,e;,x;", "33 23 0 23 23 1", ""),
-        ("$DEF,e,y;$DEF,$UPDATE,e,;,x;", "33 28 0 28 28 1", ""),
+        ("$DEF,e,;$DEF,$VAL,e;,x;", "33 23 0 23 24 1", ""),
+        ("$DEF,e,y;$DEF,$UPDATE,e,;,x;", "33 28 0 28 29 1", ""),
         ("$DEF,$DEF,m,z;,x;", "33 17 0 17 20 1", ""),
-        // A parameter is fetched that is empty: 15 for z, 7 for its call, 11 for DEF's list.
-        ("$DEF,z,<$DEF,~1,x;>;$z,;", "33 24 0 33 33 1", ""),
+        // A parameter is fetched that is empty: 16 for z, 7 for its call, 11 for DEF's list.
+        ("$DEF,z,<$DEF,~1,x;>;$z,;", "33 24 0 33 34 1", ""),
         // The comma that ends the name stands in a body.
-        ("$DEF,p,<,x>;$DEF,$p;;", "33 21 0 24 23 1", ""),
+        ("$DEF,p,<,x>;$DEF,$p;;", "33 21 0 24 24 1", ""),
     ]);
     check_outcomes(&[
         ("$DEF,<><>,x;", 33, ""),
@@ -66,9 +66,9 @@ fn places_of_an_empty_name() {
         ("$$DEF,,x;;", "33 9 0 9 15 0", ""),
         ("$DEF,$DEF,,x;,y;", "33 13 0 13 19 0", ""),
         ("$DEF,a,$DEF,,x;;", "33 15 0 15 21 0", ""),
-        // In a body: k has 13, its call 6. In a body within that of j, which has 8, for the list of `$a,`.
-        ("$DEF,k,<$DEF,,x;>;$k;", "33 21 0 29 30 1", ""),
-        ("$DEF,k,<$DEF,,x;>;$DEF,j,<$k;>;$a,$j;;", "33 37 0 48 50 2", ""),
+        // In a body: k has 14, its call 6. In a body within that of j, which has 9, for the list of `$a,`.
+        ("$DEF,k,<$DEF,,x;>;$k;", "33 21 0 29 31 1", ""),
+        ("$DEF,k,<$DEF,,x;>;$DEF,j,<$k;>;$a,$j;;", "33 37 0 48 52 2", ""),
         // In quotes nothing is defined.
         ("<$DEF,,x;>", "0 10 8 11 0 0", "$DEF,,x;"),
         ("$DEF,k,<$DEF,,x;>;", "0 18 0 19 19 1", ""),
@@ -106,13 +106,13 @@ fn under_other_signs() {
 fn order_of_checks() {
     check_lent(&[
         // 10, then the 4 of the own cell, then 13, then 33. Nothing is written, so there is no 5.
-        ("$DEF,p,<;>;$DEF,,$p;x;", 21, 0, "10 20 0 21 21 1"),
+        ("$DEF,p,<;>;$DEF,,$p;x;", 22, 0, "10 20 0 21 22 1"),
         ("$DEF,,x;", 10, 0, "4 8 0 8 10 0"),
         ("$DEF,,x;", 11, 0, "33 8 0 8 11 0"),
         ("$DEF,;", 8, 0, "4 6 0 6 8 0"),
         ("$DEF,;", 9, 0, "13 6 0 6 9 0"),
-        ("$DEF,k,<$DEF,,x;>;$k;", 29, 0, "4 21 0 29 29 1"),
-        ("$DEF,k,<$DEF,,x;>;$k;", 30, 0, "33 21 0 29 30 1"),
+        ("$DEF,k,<$DEF,,x;>;$k;", 30, 0, "4 21 0 29 30 1"),
+        ("$DEF,k,<$DEF,,x;>;$k;", 31, 0, "33 21 0 29 31 1"),
         ("ab$DEF,,x;", 11, 1, "5 2 1 2 0 0"),
     ]);
     check_allowance(&[("$DEF,,x;", 8, "33 8 0 8 11 0"), ("$DEF,,x;", 7, "3 7 0 7 10 0")]);
@@ -141,8 +141,8 @@ fn order_of_checks() {
 fn charge_at_an_empty_name() {
     // The cell of `;` is allowed and counted in the highest; nothing is exchanged and nothing goes.
     assert_eq!(charges("$DEF,,x;"), [4, 5, 6, 7, 8, 9, 10, 10]);
-    assert_eq!(charges("$DEF,$DEF,m,z;,x;")[13..], [14, 15, 16, 16]);
-    let with_a_name = [4, 5, 6, 7, 8, 9, 10, 11, 6, 6];
+    assert_eq!(charges("$DEF,$DEF,m,z;,x;")[13..], [15, 16, 17, 17]);
+    let with_a_name = [4, 5, 6, 7, 8, 9, 10, 11, 7, 7];
     assert_eq!(charges("$DEF,k,x;"), with_a_name);
 }
 
@@ -154,7 +154,7 @@ fn names_of_one_byte() {
         let end = run(&script, &Lent::PROGRAM);
         assert_eq!(
             (line(&end).as_str(), text(&end.output)),
-            ("0 25 2 28 16 1", "xx"),
+            ("0 25 2 28 17 1", "xx"),
             "{byte}"
         );
         assert_eq!(end.standing[0].name, [byte]);
@@ -197,8 +197,8 @@ fn looked_up() {
         ("$VAL,<>,x;", "15 10 0 10 11 0", ""),
         ("$UPDATE,,;", "15 10 0 10 13 0", ""),
         ("$DEF,k,v;$;", "15 11 0 11 12 1", ""),
-        // In a body, a name fetched: k has 13 and its call 7, VAL's list 9.
-        ("$DEF,k,<$VAL,~1;>;$k,;", "15 22 0 29 29 1", ""),
+        // In a body, a name fetched: k has 14 and its call 7, VAL's list 9.
+        ("$DEF,k,<$VAL,~1;>;$k,;", "15 22 0 29 30 1", ""),
     ]);
     let before = "$DEF,k,v;$DEF,e,;$DEF,j,<~1>;";
     for call in ["$;", "$<>;", "$,k;", "$$e;;", "$$IF,0,k;;", "$$j,;,k;"] {

@@ -36,7 +36,7 @@ fn stored_rows() {
     for (script, report, output, origins, rules) in [
         (
             "a,$DEF,v,V;$DEF,k,<b,~1$VAL,v;$SIZE,xx;>;$k,c;$IF,1,<d>;",
-            "0 56 8 77 51 2",
+            "0 56 8 77 53 2",
             "a,b,cV2d",
             "1 2 46 46 46 46 46 56",
             "1 1 2 2 3 4 5 5",
@@ -44,12 +44,12 @@ fn stored_rows() {
         ("x<y,z>~1", "0 8 6 9 0 0", "xy,z~1", "1 3 4 5 7 8", "1 1 1 1 1 1"),
         (
             "$DEF,k,<(~1)>;$k,ab;$k,$k,cd;;",
-            "0 30 10 43 28 1",
+            "0 30 10 43 29 1",
             "(ab)((cd))",
             "20 20 20 20 30 30 30 30 30 30",
             "2 3 3 2 2 3 3 3 3 2",
         ),
-        ("ab$DEF,k,<c$j;>;$k;", "15 19 3 23 21 1", "abc", "1 2 19", "1 1 2"),
+        ("ab$DEF,k,<c$j;>;$k;", "15 19 3 23 22 1", "abc", "1 2 19", "1 1 2"),
         ("$DEF,k,v;", "0 9 0 10 12 1", "", "", ""),
     ] {
         let end = end(script);
@@ -256,23 +256,23 @@ fn cut_off() {
         }),
     };
     for (script, lent, report, output, origins, rules) in [
-        (A, lent(16, 2, 18), "3 18 0 18 16 1", "", &[][..], ""),
-        (A, lent(16, 2, 19), "3 18 1 19 16 1", "p", &[18], "2"),
-        (A, lent(16, 2, 20), "3 18 2 20 16 1", "p7", &[18, 18], "23"),
+        (A, lent(17, 2, 18), "3 18 0 18 17 1", "", &[][..], ""),
+        (A, lent(17, 2, 19), "3 18 1 19 17 1", "p", &[18], "2"),
+        (A, lent(17, 2, 20), "3 18 2 20 17 1", "p7", &[18, 18], "23"),
         ("", lent(0, 0, 0), "3 0 0 0 0 0", "", &[], ""),
         ("ab$kk", lent(5, 9, 99), "4 5 2 5 5 0", "ab", &[1, 2], "11"),
-        ("$DEF,k,<a$b>;$k;", lent(17, 9, 99), "4 16 1 18 14 1", "a", &[16], "2"),
+        ("$DEF,k,<a$b>;$k;", lent(18, 9, 99), "4 16 1 18 15 1", "a", &[16], "2"),
         ("abc", lent(0, 2, 99), "5 3 2 3 0 0", "ab", &[1, 2], "11"),
         // A copy goes through whole or not at all.
         (
             "$DEF,k,<p~1>;$k,78;",
-            lent(17, 2, 99),
-            "5 19 1 21 17 1",
+            lent(18, 2, 99),
+            "5 19 1 21 18 1",
             "p",
             &[19],
             "2",
         ),
-        ("x$DEF,k,abc;$VAL,k;", lent(18, 3, 99), "5 19 1 19 18 1", "x", &[1], "1"),
+        ("x$DEF,k,abc;$VAL,k;", lent(19, 3, 99), "5 19 1 19 19 1", "x", &[1], "1"),
         ("x$-,3,5;", lent(10, 2, 99), "5 8 1 8 10 0", "x", &[1], "1"),
     ] {
         let end = run_signs(&STANDARD, script.as_bytes(), &lent);
@@ -293,7 +293,7 @@ fn at_the_longest() {
     // All of them by the last byte.
     let script = format!("$DEF,k,<~1>;$k,{};", "y".repeat(LIMIT - 16));
     let end = run_signs(&STANDARD, script.as_bytes(), &all);
-    assert_eq!(line(&end), "0 65536 65520 65539 65534 1");
+    assert_eq!(line(&end), "0 65536 65520 65539 65535 1");
     assert!(end.origins == [65_536; 65_520] && end.rules == [3; 65_520]);
     assert!(substitute(script.as_bytes(), &Table::STANDARD, &BOUNDS) == Some(end));
 }

@@ -162,10 +162,10 @@ fn dollar_and_semicolon_in_key_names() {
     check_under(
         b"#,|~<>",
         &[
-            (b"#DEF,$k;,<p~1>|#$k;,7|", "0 22 2 26 20 1", b"p7"),
+            (b"#DEF,$k;,<p~1>|#$k;,7|", "0 22 2 26 21 1", b"p7"),
             (b"$DEF,k,x;$k;", "0 12 12 13 0 0", b"$DEF,k,x;$k;"),
-            (b"#DEF,k,<$~1;>|#k,;|", "0 19 3 24 17 1", b"$;;"),
-            (b"#DEF,k,<~;>|#k|", "12 15 0 16 13 1", b""),
+            (b"#DEF,k,<$~1;>|#k,;|", "0 19 3 24 18 1", b"$;;"),
+            (b"#DEF,k,<~;>|#k|", "12 15 0 16 14 1", b""),
             (b"#k;|", "15 4 0 4 7 0", b""),
             (b"a|b", "0 3 3 4 0 0", b"a|b"),
             (b"#+,1,2|", "0 7 1 8 10 0", b"3"),
@@ -179,7 +179,7 @@ fn signs_exchanged_among_themselves() {
     check_under(
         b"><~;,$",
         &[
-            (b">DEF<k<,p;1$~>k<7~", "0 18 2 22 16 1", b"p7"),
+            (b">DEF<k<,p;1$~>k<7~", "0 18 2 22 17 1", b"p7"),
             (b"a,b,c$d$e", "0 9 7 10 0 0", b"ab,c$de"),
             (b"p$q", "1 2 1 2 0 0", b"p"),
             (b">a<;1~", "11 4 0 4 6 0", b""),
@@ -188,7 +188,7 @@ fn signs_exchanged_among_themselves() {
         ],
     );
     // The quotes alone.
-    check_under(b"$,;~><", &[(b"$DEF,k,>p~1<;$k,7;", "0 18 2 22 16 1", b"p7")]);
+    check_under(b"$,;~><", &[(b"$DEF,k,>p~1<;$k,7;", "0 18 2 22 17 1", b"p7")]);
 }
 
 #[test]
@@ -197,7 +197,7 @@ fn signs_that_are_control_bytes_or_above_127() {
     check_under(
         b"\x01\x02\x03\x04\x05\x06",
         &[
-            (case_a, "0 18 2 22 16 1", b"p7"),
+            (case_a, "0 18 2 22 17 1", b"p7"),
             (A.as_bytes(), "0 18 18 19 0 0", A.as_bytes()),
             (b"\x05<\x05>\x06~\x06,", "0 8 6 9 0 0", b"<\x05>\x06~,"),
         ],
@@ -205,7 +205,7 @@ fn signs_that_are_control_bytes_or_above_127() {
     check_under(
         b"\x00\xff\x80\x7f\n ",
         &[
-            (b"\x00DEF\xffk\xff\np\x7f1 \x80\x00k\xff7\x80", "0 18 2 22 16 1", b"p7"),
+            (b"\x00DEF\xffk\xff\np\x7f1 \x80\x00k\xff7\x80", "0 18 2 22 17 1", b"p7"),
             (b"\x00j\x80", "15 3 0 3 6 0", b""),
             (b"x y", "1 2 1 2 0 0", b"x"),
         ],
@@ -217,9 +217,9 @@ fn letters_fetch_under_other_signs() {
     check_under(
         b"[.:@{}",
         &[
-            (b"[DEF.k.{@a@b}:[k.1.2.3.4.5.6.7.8.9.A.B:", "0 39 2 43 37 1", b"AB"),
-            (b"[DEF.k.{@A}:[k.1:", "12 17 0 18 15 1", b""),
-            (b"[DEF.k.{@~1}:[k.1:", "12 18 0 19 16 1", b""),
+            (b"[DEF.k.{@a@b}:[k.1.2.3.4.5.6.7.8.9.A.B:", "0 39 2 43 38 1", b"AB"),
+            (b"[DEF.k.{@A}:[k.1:", "12 17 0 18 16 1", b""),
+            (b"[DEF.k.{@~1}:[k.1:", "12 18 0 19 17 1", b""),
         ],
     );
 }

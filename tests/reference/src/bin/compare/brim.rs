@@ -25,7 +25,7 @@ pub fn script(random: &mut Random) -> Vec<u8> {
     let word = "y".repeat(length);
     let (b, c) = (4 * length, 256 * length);
     // The definitions of `e`, `d`, `b` and `c`, and what the open call has collected.
-    let standing = 5 + 13 + (5 + b) + (5 + c) + 6;
+    let standing = 6 + 14 + (6 + b) + (6 + c) + 6;
     let (times_c, room) = fill(LONGEST - standing, c);
     let (times_b, room) = fill(room, b);
     let (values_c, values_b) = ("$VAL,c;".repeat(times_c), "$VAL,b;".repeat(times_b));

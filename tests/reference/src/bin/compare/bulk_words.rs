@@ -67,7 +67,7 @@ pub fn script(random: &mut Random) -> Vec<u8> {
     let length = random.between(4, 16);
     let (b, c) = (4 * length, 256 * length);
     // The definitions of `i`, `d`, `b` and `c`, and the heads of the calls.
-    let standing = 7 + 13 + (5 + b) + (5 + c) + 16;
+    let standing = 8 + 14 + (6 + b) + (6 + c) + 16;
     let in_body = random.one_in(4);
     let values = Values {
         b,

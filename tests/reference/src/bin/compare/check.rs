@@ -2,6 +2,7 @@
 use crate::charging::{self, Course};
 use crate::dividing;
 use crate::fetching;
+use crate::finding::{self, Finds};
 use crate::giving;
 use crate::lending;
 use crate::library;
@@ -16,7 +17,7 @@ use reference::scanning::{self, Lent};
 use reference::substitution::{substitute, Bounds};
 
 /// What a script's run is lent, and how it ends by scanning, with the ways that `~`, the words from M6, empty names,
-/// divisions, origins and locks went and the course of the charge.
+/// divisions, origins, locks and lookups went and the course of the charge.
 pub struct Run {
     pub lent: Lent,
     pub scanned: End,
@@ -27,6 +28,7 @@ pub struct Run {
     names: Names,
     dividing: dividing::Ways,
     tracing: tracing::Ways,
+    finds: Finds,
 }
 
 /// The ways that a run came to, which are counted.
@@ -38,6 +40,7 @@ pub struct Told {
     pub dividing: dividing::Ways,
     pub tracing: tracing::Ways,
     pub locking: locking::Ways,
+    pub finding: finding::Ways,
 }
 
 impl Run {
@@ -45,7 +48,7 @@ impl Run {
         let (mut fetching, mut giving) = (fetching::Ways::default(), giving::Ways::default());
         let (mut course, mut names) = (Course::default(), Names::default());
         let (mut dividing, mut scans) = (dividing::Ways::default(), Scans::default());
-        let mut locks = Locks::default();
+        let (mut locks, mut finds) = (Locks::default(), Finds::default());
         let scanned = scanning::run_traced(script.checked(), &script.text, &lent, &mut |row| {
             if let Some(way) = fetching::way(row) {
                 fetching[way] = true;
@@ -57,6 +60,7 @@ impl Run {
             course.follow(row);
             names.follow(row);
             locks.follow(script, row, lent.output);
+            finds.follow(script, row);
             if script.asks() {
                 scans.follow(script, row);
             }
@@ -72,6 +76,7 @@ impl Run {
             names,
             dividing,
             tracing,
+            finds,
         }
     }
 
@@ -85,6 +90,7 @@ impl Run {
             dividing: self.dividing,
             tracing: self.tracing,
             locking: self.locks.ways(&self.scanned.report),
+            finding: self.finds.ways(&self.lent, &self.scanned.report, with_plenty),
         }
     }
 }

@@ -1,6 +1,6 @@
 //! One script: with plenty, about what it needs, often about a record of its charge, with one cell fewer than 33 or 36
-//! needs or up to a LOCK, with all that may be lent where the cells were soon too few, now and then about the longest that
-//! may be lent, and where it asks for origins often with too few numbers.
+//! needs or up to a LOCK, with all that may be lent where the cells were soon too few or hundreds of definitions stand,
+//! now and then about the longest that may be lent, and where it asks for origins often with too few numbers.
 use crate::asking;
 use crate::check::{check, substituted, Difference, Run};
 use crate::lending;
@@ -13,12 +13,15 @@ use reference::scanning::Lent;
 /// Scripts with so many scans have one run about what they need, others two.
 const LONG: u64 = 300;
 
+/// So many definitions are hundreds.
+const MANY: u64 = 200;
+
 /// The runs of a script; the first is the one with plenty.
 pub fn runs(script: &Script, random: &mut Random) -> Vec<Run> {
     let plenty = lending::generous(&script.text, random);
     let first = Run::new(script, asking::with_enough(script, plenty, random));
     let need = first.scanned.report;
-    let soon_too_few = need.outcome == 4 && need.scans < LONG;
+    let soon_too_few = need.outcome == 4 && (need.scans < LONG || need.live > MANY);
     let about = about(&first, &plenty, random);
     let mut runs = vec![first];
     runs.extend(about.into_iter().map(|lent| with_some(script, lent, random)));

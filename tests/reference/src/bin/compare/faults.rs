@@ -1,5 +1,6 @@
 //! Pieces of script that end a run at a chosen outcome, where they are reached.
 use crate::built_ins;
+use crate::groups;
 use crate::grower::Place;
 use crate::letters;
 use crate::locked;
@@ -88,7 +89,7 @@ fn missing(in_body: bool, random: &mut Random) -> Vec<u8> {
     }
 }
 
-/// About half of the names are empty.
+/// Nearly half of the names are empty.
 fn not_defined(random: &mut Random) -> Vec<u8> {
     const NAMED: [&str; 11] = [
         "$zz;",
@@ -103,9 +104,10 @@ fn not_defined(random: &mut Random) -> Vec<u8> {
         "$SIZ,a;",
         "$SIZES,a;",
     ];
-    match random.below(9) {
+    match random.below(10) {
         0..=3 => nameless::looked_up(random),
         4 => locked::not_defined(random).into_bytes(),
+        5 => groups::not_defined(random),
         _ => text(random.pick(&NAMED)),
     }
 }

@@ -2,6 +2,7 @@
 use crate::brim;
 use crate::bulk_words;
 use crate::faults::PLANTED;
+use crate::groups;
 use crate::grower::grown;
 use crate::lending::LONGEST;
 use crate::locked;
@@ -14,10 +15,11 @@ use crate::script::Script;
 use crate::soak;
 use reference::signs::Table;
 
-/// One script in so many is a soak script, one in so many has a division at its end, one in so many LOCK or UPDATE of
-/// what it marked, one in so many comes up to the most cells that may be lent, and one in so many calls the words from
-/// M6 with thousands of bytes.
+/// One script in so many is a soak script, one in so many has definitions of shared groups, one in so many a division at
+/// its end, one in so many LOCK or UPDATE of what it marked, one in so many comes up to the most cells that may be lent,
+/// and one in so many calls the words from M6 with thousands of bytes.
 const SOAKS: usize = 25;
+const GROUPS: usize = 14;
 const DIVISIONS: usize = 25;
 const LOCKS: usize = 40;
 const BRIMS: usize = 300;
@@ -77,6 +79,9 @@ fn text(random: &mut Random) -> Vec<u8> {
     }
     if random.one_in(SOAKS) {
         return soak::script(random);
+    }
+    if random.one_in(GROUPS) {
+        return groups::script(random);
     }
     if random.one_in(DIVISIONS) {
         return menu_wheels::script(random);

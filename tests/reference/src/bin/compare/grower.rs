@@ -1,6 +1,7 @@
 //! Well-formed scripts, grown item by item. The grower remembers which definitions stand where it writes, so that most
 //! calls find one, with the parameters that its body fetches.
 use crate::faults;
+use crate::groups;
 use crate::letters;
 use crate::locked;
 use crate::m6_words;
@@ -73,7 +74,7 @@ pub struct Known {
 type Weights = [usize; 3];
 type Item = fn(&mut Grower, Place);
 
-const ITEMS: [(Weights, Item); 33] = [
+const ITEMS: [(Weights, Item); 34] = [
     ([100, 150, 120], Grower::word),
     ([160, 60, 60], Grower::definition),
     ([260, 150, 220], Grower::call),
@@ -83,6 +84,7 @@ const ITEMS: [(Weights, Item); 33] = [
     ([60, 30, 50], Grower::update),
     ([14, 10, 14], locked::lock),
     ([14, 8, 8], locked::marked),
+    ([10, 6, 6], groups::items),
     ([40, 50, 50], Grower::arithmetic),
     ([30, 40, 40], menu_wheels::division),
     ([14, 8, 8], menu_wheels::wheel),

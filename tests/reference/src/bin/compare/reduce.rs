@@ -34,7 +34,7 @@ impl Reduced {
     }
 
     /// Puts a plainer byte for each word, everywhere at once, if a difference remains. So names are shortened together,
-    /// and to one byte, as DEF turns an empty one away.
+    /// and to one byte, as DEF turns an empty one away; at last to one of their group, so that they still share it.
     fn plainer_words(&mut self, memory: &mut Memory) {
         let table = self.script.checked().clone().unwrap_or(Table::STANDARD);
         let pieces = pieces(&self.script.text, &table);
@@ -43,9 +43,10 @@ impl Reduced {
             .map(<[u8]>::to_vec)
             .collect();
         for word in words {
-            for byte in PLAINER.chunks(1) {
-                let text = with_another(&self.script.text, &table, &word, byte);
-                if word == byte || self.takes_bytes(memory, text) {
+            let bytes = PLAINER.iter().copied().chain(of_its_group(&word, &table));
+            for byte in bytes {
+                let text = with_another(&self.script.text, &table, &word, &[byte]);
+                if word == [byte] || self.takes_bytes(memory, text) {
                     break;
                 }
             }
@@ -121,6 +122,13 @@ impl Shorten for Reduced {
 
 fn plain(table: &Table, byte: u8) -> bool {
     table.kind(byte) == PLAIN
+}
+
+/// The bytes that are names of a word's group, by request Thirteen; a letter comes first.
+fn of_its_group(word: &[u8], table: &Table) -> Vec<u8> {
+    let sum = word.iter().fold(0u8, |sum, &byte| sum.wrapping_add(byte));
+    let bytes = [64, 0, 128, 192].map(|first| first + sum % 64);
+    bytes.into_iter().filter(|&byte| plain(table, byte)).collect()
 }
 
 /// The words of a text and the signs between them.

@@ -1,9 +1,10 @@
-//! How often each outcome was come to, each way that `~`, the charge, the words from M6, empty names, divisions, origins
-//! and locks went, and each row about signs that are lent and about keys.
+//! How often each outcome was come to, each way that `~`, the charge, the words from M6, empty names, divisions, origins,
+//! locks and lookups went, and each row about signs that are lent and about keys.
 use crate::charging;
 use crate::check::Told;
 use crate::dividing;
 use crate::fetching;
+use crate::finding;
 use crate::giving;
 use crate::keying::{self, CALLS, RUNS};
 use crate::keys::Keys;
@@ -20,15 +21,16 @@ const OUTCOMES: usize = 37;
 /// The outcome of a call for keys that no run has.
 const NONE: usize = 34;
 /// The ways of `~` are counted in the places after the outcomes, then those of the charge, those of the words from M6,
-/// those of empty names, those of divisions, those of origins, those of locks, then the rows of signs, those of calls for
-/// keys and those of the runs of their scripts.
+/// those of empty names, those of divisions, those of origins, those of locks, those of lookups, then the rows of signs,
+/// those of calls for keys and those of the runs of their scripts.
 const FIRST_OF_CHARGE: usize = OUTCOMES + fetching::WAYS.len();
 const FIRST_OF_WORDS: usize = FIRST_OF_CHARGE + charging::WAYS.len();
 const FIRST_OF_NAMES: usize = FIRST_OF_WORDS + giving::WAYS.len();
 const FIRST_OF_DIVISIONS: usize = FIRST_OF_NAMES + naming::WAYS.len();
 const FIRST_OF_ORIGINS: usize = FIRST_OF_DIVISIONS + dividing::WAYS.len();
 const FIRST_OF_LOCKS: usize = FIRST_OF_ORIGINS + tracing::WAYS;
-const FIRST_ROW: usize = FIRST_OF_LOCKS + locking::WAYS.len();
+const FIRST_OF_FINDS: usize = FIRST_OF_LOCKS + locking::WAYS.len();
+const FIRST_ROW: usize = FIRST_OF_FINDS + finding::WAYS.len();
 const FIRST_OF_CALLS: usize = FIRST_ROW + ROWS.len();
 const FIRST_OF_RUNS: usize = FIRST_OF_CALLS + CALLS.len();
 const PLACES: usize = FIRST_OF_RUNS + RUNS.len();
@@ -51,6 +53,7 @@ fn label(place: usize) -> String {
         FIRST_OF_RUNS.. => RUNS[place - FIRST_OF_RUNS].0.to_string(),
         FIRST_OF_CALLS.. => CALLS[place - FIRST_OF_CALLS].0.to_string(),
         FIRST_ROW.. => ROWS[place - FIRST_ROW].0.to_string(),
+        FIRST_OF_FINDS.. => finding::WAYS[place - FIRST_OF_FINDS].to_string(),
         FIRST_OF_LOCKS.. => locking::WAYS[place - FIRST_OF_LOCKS].to_string(),
         FIRST_OF_ORIGINS.. => tracing::label(place - FIRST_OF_ORIGINS).to_string(),
         FIRST_OF_DIVISIONS.. => dividing::WAYS[place - FIRST_OF_DIVISIONS].0.to_string(),
@@ -77,6 +80,7 @@ fn places<'a>(script: &'a Script, report: &'a Report, told: &'a Told) -> impl It
         .chain(places_of(&told.dividing, FIRST_OF_DIVISIONS))
         .chain(places_of(&told.tracing, FIRST_OF_ORIGINS))
         .chain(places_of(&told.locking, FIRST_OF_LOCKS))
+        .chain(places_of(&told.finding, FIRST_OF_FINDS))
         .chain(rows.map(|row| FIRST_ROW + row))
         .chain([report.outcome as usize])
 }
