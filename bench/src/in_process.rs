@@ -1,7 +1,7 @@
 //! Library and reference in one process, each run checked.
 use crate::library::Memory;
 use crate::markdown::{grouped, ratio, Table};
-use crate::timing::{best, mean, timed, Contender};
+use crate::timing::{best, mean, shortest, timed, Contender};
 use crate::workloads::Workload;
 use reference::ends::{End, Report};
 use reference::scanning::{self, Lent};
@@ -42,6 +42,11 @@ impl<'a> Work<'a> {
     pub fn library(&self, call: Call) -> Contender<'_> {
         let mut memory = Memory::new();
         Box::new(move || mean(|| self.library_run(&mut memory, call)))
+    }
+
+    pub fn library_shortest(&self, call: Call) -> Contender<'_> {
+        let mut memory = Memory::new();
+        Box::new(move || shortest(|| self.library_run(&mut memory, call)))
     }
 
     fn reference(&self) -> Contender<'_> {

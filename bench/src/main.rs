@@ -1,17 +1,23 @@
 //! Compares the library with a plain reference, and the program `gpm` with GNU m4, and prints the tables of
 //! docs/PERFORMANCE.md. Nothing here asserts a time.
+mod added;
+mod callgrind;
 mod document;
+mod ends;
 mod growth;
 mod in_process;
+mod index;
 mod keys;
 mod library;
 mod machine;
 mod markdown;
+mod names;
 mod origins;
 mod processes;
 mod profile;
 mod signs;
 mod soak;
+mod standing;
 mod timing;
 mod workloads;
 
@@ -22,12 +28,12 @@ use std::process::ExitCode;
 
 const ROUNDS: usize = 60;
 
-/// What the command line asks for. `once` is for a profiler: the library alone, on one workload.
+/// What the command line asks for. `once` is for a profiler: the library alone, on these scripts.
 struct Request {
     root: PathBuf,
     rounds: usize,
     write: bool,
-    once: Option<String>,
+    once: Vec<PathBuf>,
 }
 
 impl Request {
@@ -37,12 +43,12 @@ impl Request {
             root,
             rounds: ROUNDS,
             write: false,
-            once: None,
+            once: Vec::new(),
         };
         while let Some(word) = words.next() {
             match word.as_str() {
                 "--write" => request.write = true,
-                "--once" => request.once = Some(words.next()?),
+                "--once" => request.once.push(words.next()?.into()),
                 _ => request.rounds = word.parse().ok().filter(|rounds| *rounds > 0)?,
             }
         }
@@ -52,7 +58,7 @@ impl Request {
 
 fn main() -> ExitCode {
     let Some(request) = Request::of(env::args().skip(1)) else {
-        eprintln!("usage: bench/run [--write] [--once WORK] [ROUNDS]");
+        eprintln!("usage: bench/run [--write] [--once SCRIPT] [ROUNDS]");
         return ExitCode::from(2);
     };
     match answer(&request) {
@@ -65,8 +71,8 @@ fn main() -> ExitCode {
 }
 
 fn answer(request: &Request) -> Result<(), String> {
-    if let Some(name) = &request.once {
-        return profile::once(&workloads::all(), name);
+    if !request.once.is_empty() {
+        return callgrind::once(&request.once);
     }
     let tables = measured(request);
     print!("{tables}");
@@ -88,6 +94,8 @@ fn measured(request: &Request) -> String {
     let soak = soak::table(*rounds);
     let processes = processes::table(&programs, &workloads, *rounds);
     let growth = growth::tables(&programs, *rounds);
+    let index = index::tables(root, *rounds);
+    let ends = ends::tables(root, *rounds);
     let profile = profile::table(root, &workloads);
     format!(
         "Best of {rounds} rounds.\n\n{machine}\n\
@@ -98,6 +106,8 @@ fn measured(request: &Request) -> String {
          ### Soak: the same calls with more and more charged\n\n{soak}\n\
          ### Whole processes: gpm and m4\n\n{processes}\n\
          ### Growth\n\n{growth}\n\
+         ### Finding names: calls with more and more definitions standing\n\n{index}\n\
+         ### The end of a call: what stands, what goes and what moves\n\n{ends}\n\
          ### Instructions of the library\n\n{profile}"
     )
 }

@@ -50,6 +50,10 @@ pub fn milliseconds(seconds: f64) -> String {
     format!("{:.3}", seconds * 1e3)
 }
 
+pub fn tenths(number: f64) -> String {
+    format!("{number:.1}")
+}
+
 /// The first as a multiple of the second; none where one of them is lost in what was taken off.
 pub fn ratio(first: f64, second: f64) -> String {
     if first > 0.0 && second > 0.0 {

@@ -1,10 +1,9 @@
-//! Where the library's time goes: instructions as valgrind counts them, which no other work on the machine changes.
+//! Where the library's time goes, by the instructions of its functions.
+use crate::callgrind;
 use crate::library::Memory;
 use crate::markdown::{grouped, Table};
 use crate::workloads::Workload;
-use std::env;
 use std::path::Path;
-use std::process::{Command, Output, Stdio};
 
 /// Instructions of one run, the functions' own ones.
 #[derive(Default)]
@@ -33,22 +32,13 @@ impl Counts {
     }
 }
 
-/// The run that is profiled: the library alone, on the workload of this name.
-pub fn once(workloads: &[Workload], name: &str) -> Result<(), String> {
-    let workload = workloads
-        .iter()
-        .find(|workload| workload.name == name)
-        .ok_or("no such work")?;
-    Memory::new().expand(workload.gpm.as_bytes());
-    Ok(())
-}
-
 pub fn table(root: &Path, workloads: &[Workload]) -> String {
     let mut table = Table::new(&["work", "instructions", "a scan", "scanning", "finding names", "other"]);
     for workload in workloads {
-        let Some(counts) = counted(root, &workload.name) else {
-            return "valgrind could not be run.\n".to_string();
+        let Some(listing) = callgrind::listing(root, workload) else {
+            return callgrind::ABSENT.to_string();
         };
+        let counts = Counts::of(&listing);
         let report = Memory::new().expand(workload.gpm.as_bytes());
         let share = |part: u64| format!("{:.0} %", 100.0 * part as f64 / counts.all as f64);
         table.row(vec![
@@ -61,24 +51,4 @@ pub fn table(root: &Path, workloads: &[Workload]) -> String {
         ]);
     }
     table.to_string()
-}
-
-/// This program is run once more, under valgrind, and counted from the library's entry to its return.
-fn counted(root: &Path, name: &str) -> Option<Counts> {
-    let counts = root.join("target/bench/files/callgrind.out");
-    let mut run = Command::new("valgrind");
-    run.args(["--tool=callgrind", "--toggle-collect=gpm_expand"]);
-    run.arg(format!("--callgrind-out-file={}", counts.display()));
-    run.arg(env::current_exe().ok()?).arg(root).args(["--once", name]);
-    answered(&mut run)?;
-    let listing = answered(Command::new("callgrind_annotate").arg("--threshold=100").arg(&counts))?;
-    Some(Counts::of(&String::from_utf8_lossy(&listing.stdout)))
-}
-
-fn answered(command: &mut Command) -> Option<Output> {
-    command
-        .stderr(Stdio::null())
-        .output()
-        .ok()
-        .filter(|output| output.status.success())
 }

@@ -11,7 +11,7 @@ const TIMES: usize = 650;
 const OPEN_CALL: usize = 5;
 
 /// A definition's cells beside its value, where its name has one byte.
-const DEFINITION: usize = 5;
+const DEFINITION: usize = 6;
 
 /// What stands before the soak, and how many cells it is charged.
 struct Ground {

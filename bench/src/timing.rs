@@ -13,14 +13,28 @@ pub fn timed<T>(work: impl FnOnce() -> T) -> (T, Duration) {
 
 /// The mean seconds of a run, over as many runs as fill a measurement. A run says itself how long it took, so that
 /// checking what it gave is not counted.
-pub fn mean(mut run: impl FnMut() -> Duration) -> f64 {
+pub fn mean(run: impl FnMut() -> Duration) -> f64 {
+    let runs = measurement(run);
+    let total: Duration = runs.iter().sum();
+    total.as_secs_f64() / runs.len() as f64
+}
+
+/// The seconds of the shortest of these runs: where one time is taken off another, since other work on the machine
+/// seldom meets all runs. A run is to be long beside the clock's own error.
+pub fn shortest(run: impl FnMut() -> Duration) -> f64 {
+    let shortest = measurement(run).into_iter().min();
+    shortest.unwrap_or_default().as_secs_f64()
+}
+
+fn measurement(mut run: impl FnMut() -> Duration) -> Vec<Duration> {
     let mut total = Duration::ZERO;
-    let mut runs = 0;
+    let mut runs = Vec::new();
     while total < MEASUREMENT {
-        total += run();
-        runs += 1;
+        let time = run();
+        total += time;
+        runs.push(time);
     }
-    total.as_secs_f64() / f64::from(runs)
+    runs
 }
 
 /// Something that is measured again and again: each time it says how many seconds it took.

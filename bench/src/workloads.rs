@@ -1,5 +1,7 @@
 //! The work that is measured: each workload is written for GPM and for m4, with the output that both must give. In m4
 //! parameters are quoted where GPM copies them unscanned.
+use crate::names;
+
 const LINE: &str = "the coin meter reads 41250 at noon\n";
 
 pub struct Workload {
@@ -21,6 +23,9 @@ pub fn all() -> Vec<Workload> {
         wheel(8, 1_100),
         oldest(1_000, 2_000),
         newest(1_000, 2_000),
+        even_groups(1_000, 2_000),
+        one_group(1_000, 2_000),
+        group_of_def(1_000, 2_000),
         long_arguments(8_000, 8),
         dropped(2_900),
     ]
@@ -130,20 +135,41 @@ pub fn wheel(entries: usize, times: usize) -> Workload {
 
 /// Calls of the first of so many definitions.
 pub fn oldest(definitions: usize, calls: usize) -> Workload {
-    one_of("oldest definition", definitions, 0, calls)
+    one_of("oldest definition", &numbered(definitions), 0, calls)
 }
 
 /// Calls of the last of so many definitions.
 pub fn newest(definitions: usize, calls: usize) -> Workload {
-    one_of("newest definition", definitions, definitions - 1, calls)
+    one_of("newest definition", &numbered(definitions), definitions - 1, calls)
 }
 
-fn one_of(name: &str, definitions: usize, which: usize, calls: usize) -> Workload {
-    let define = |one: fn(usize) -> String| (0..definitions).map(one).collect::<String>();
+/// Calls of the first of so many definitions, which are spread evenly over the groups of the index.
+pub fn even_groups(definitions: usize, calls: usize) -> Workload {
+    one_of("even groups", &names::spread(definitions), 0, calls)
+}
+
+/// The same where all of them are in one group, in which no built-in is.
+pub fn one_group(definitions: usize, calls: usize) -> Workload {
+    one_of("one group", &names::together(definitions, "n"), 0, calls)
+}
+
+/// The same where that is the group of DEF, so that every definition passes those made before.
+pub fn group_of_def(definitions: usize, calls: usize) -> Workload {
+    one_of("group of DEF", &names::together(definitions, "DEF"), 0, calls)
+}
+
+/// Of a thousand the first and the last are alone in their groups.
+fn numbered(definitions: usize) -> Vec<String> {
+    (0..definitions).map(|at| format!("n{at:04}")).collect()
+}
+
+fn one_of(work: &str, names: &[String], which: usize, calls: usize) -> Workload {
+    let define = |one: fn((usize, &String)) -> String| names.iter().enumerate().map(one).collect::<String>();
+    let called = &names[which];
     Workload {
-        name: name.to_string(),
-        gpm: define(|at| format!("$DEF,n{at:04},v{at:04};")) + &format!("$n{which:04};\n").repeat(calls),
-        m4: define(|at| format!("define(`n{at:04}',`v{at:04}')")) + &format!("n{which:04}\n").repeat(calls),
+        name: work.to_string(),
+        gpm: define(|(at, name)| format!("$DEF,{name},v{at:04};")) + &format!("${called};\n").repeat(calls),
+        m4: define(|(at, name)| format!("define(`{name}',`v{at:04}')")) + &format!("{called}\n").repeat(calls),
         output: format!("v{which:04}\n").repeat(calls),
     }
 }
