@@ -423,27 +423,25 @@ impl Groups {
     }
 
     fn put_call(&mut self, name: usize, list: &[u8], body: &[u8], in_list: bool) {
-        if in_list {
-            self.put("$");
-            self.put_name(name);
-            self.put(",");
-            self.text.extend(list);
-            self.put("$DEF,");
-            self.put_name(name);
-            self.put(",<");
-            self.text.extend(body);
-            self.put(">;;");
-        } else {
-            self.put("$DEF,");
-            self.put_name(name);
-            self.put(",<");
-            self.text.extend(body);
-            self.put(">;$");
-            self.put_name(name);
-            self.put(",");
-            self.text.extend(list);
-            self.put(";");
+        if !in_list {
+            self.put_definition(name, body);
         }
+        self.put("$");
+        self.put_name(name);
+        self.put(",");
+        self.text.extend(list);
+        if in_list {
+            self.put_definition(name, body);
+        }
+        self.put(";");
+    }
+
+    fn put_definition(&mut self, name: usize, body: &[u8]) {
+        self.put("$DEF,");
+        self.put_name(name);
+        self.put(",<");
+        self.text.extend(body);
+        self.put(">;");
     }
 
     fn item(&mut self, depth: usize) {
