@@ -1,5 +1,7 @@
 // Arithmetic by lines: reads OPERATION,FIRST,SECOND from each line of the standard input and writes the outcome and the
 // result. A line that names no operation, or lacks a part, is answered by a question mark.
+#![tactic(auto)]
+
 ghost use Rattle.std.specs.Prelude.{◌+◌, ◌≤◌, ◌<◌, length};
 
 use decimal::operations::{Answer, Operation};

@@ -131,7 +131,7 @@ module _ {a b : ℤ} (f : SFits w32 a) (g : SFits w32 b) (given : (b ≢ pos 0) 
   quotient_is = rw (to_z-of_z f, to_z-of_z g) (to_z-of_z (cut_quotient_fits a b f given.1))
 
   remainder_is : remainder_in a b ≡ rem_z a b
-  remainder_is = rw (to_z-of_z f, to_z-of_z g) (to_z-of_z (record { sfits = omega (arith, mag_rem a b, f.sfits) }))
+  remainder_is = rw (to_z-of_z f, to_z-of_z g) (to_z-of_z {w = w32} (record { sfits = omega (arith, mag_rem a b, f.sfits) }))
 
   -- no step
   pub unstepped : le_z (pos 0) (remainder_in a b) ≡ true → Division a b (quotient_in a b) (remainder_in a b)

@@ -1,5 +1,7 @@
 // Signed 32-bit arithmetic on decimal text: document 01, Arithmetic, and document 02, Seven. The call takes two operands
 // as bytes of any length and answers the outcome and the shortest decimal of the result.
+#![tactic(auto)]
+
 pub mod operations;
 pub mod reader;
 pub mod shortest;

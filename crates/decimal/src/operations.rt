@@ -6,7 +6,7 @@ ghost use Rattle.decimal.specs.Answers.{answer_of, result_in};
 use crate::reader::Operand;
 use crate::shortest::Decimal;
 
-#[derive(Drop)]
+#[derive(Clone, Copy)]
 pub enum Operation {
     Sum,
     Difference,
@@ -16,7 +16,7 @@ pub enum Operation {
 }
 
 // The outcome, 0 or 22 to 24, and the result's text, which is empty on a refusal.
-#[derive(Drop)]
+#[derive(Clone, Copy)]
 pub struct Answer {
     pub outcome: u32,
     pub decimal: Decimal,
@@ -93,7 +93,7 @@ impl Answer {
 }
 
 // A quotient and a remainder.
-#[derive(Drop)]
+#[derive(Clone, Copy)]
 struct Divided {
     quotient: i32,
     remainder: i32,

@@ -7,14 +7,14 @@ ghost use Rattle.decimal.specs.Answers.{result_in};
 ghost use Rattle.decimal.specs.Reading.{Took, after_first, after_digit, refusing, beyond, signed as signed_of};
 
 // The number that was read, or that it was none in range.
-#[derive(Drop)]
+#[derive(Clone, Copy)]
 pub enum Operand {
     Number(i32),
     NoNumber,
 }
 
 // How far a reader has come.
-#[derive(Drop)]
+#[derive(Clone, Copy)]
 enum Stage {
     Start,
     Signed,
@@ -24,7 +24,7 @@ enum Stage {
 
 // What was read so far. The size stops growing at one more than any operand has. The fields are private: only `new`
 // and `take` make readers.
-#[derive(Drop)]
+#[derive(Clone, Copy)]
 pub struct Reader {
     stage: Stage,
     negative: bool,

@@ -4,7 +4,7 @@ ghost use Rattle.decimal.specs.Shortest.{digits, shortest};
 ghost use Rattle.decimal.specs.Answers.{decimal_of};
 
 // A text of at most eleven bytes; zero bytes stand past its length.
-#[derive(Drop)]
+#[derive(Clone, Copy)]
 pub struct Decimal {
     pub bytes: [u8; 11],
     pub len: usize,

@@ -1,4 +1,6 @@
 // Strachey's macrogenerator in lent memory: the public calls over the machine's one call.
+#![tactic(auto)]
+
 ghost use Rattle.std.specs.Prelude.{◌≡◌, ◌≤◌, length};
 ghost use Rattle.std.proofs.Math.Option.{none};
 ghost use Rattle.language.specs.Signs.{standard, text_limit, cells_limit};
@@ -16,7 +18,7 @@ use machine::run::{Answer, Run, Stepped};
 
 // What a run reports, in document 01's order: for Rattle and for C.
 #[repr(C)]
-#[derive(Drop)]
+#[derive(Clone, Copy)]
 pub struct Report {
     pub outcome: u64,
     pub read: u64,

@@ -5,6 +5,8 @@
 // error, behind the report: `read failed`, where no whole text could be lent and so nothing was run, and `write failed`,
 // where some of the output may have been written. The report is written first, so it is there also where a closed pipe at
 // standard output ends the program. Where standard error itself cannot be written there is no place left to say so.
+#![tactic(auto)]
+
 ghost use Rattle.std.specs.Prelude.{◌+◌, ◌≤◌, ◌≡◌, ◌++◌, length, take};
 ghost use Rattle.io.specs.Counts.{IsPrefixLen};
 ghost use Rattle.language.specs.Outcomes;

@@ -1,4 +1,6 @@
 // A script for given keys: the wanted bytes inside one pair of quotes of the signs in force.
+#![tactic(auto)]
+
 ghost use Rattle.std.specs.Prelude.{◌≡◌, ◌+◌, ◌≤◌, ◌<◌, length};
 ghost use Rattle.std.proofs.Math.Option.{some};
 ghost use Rattle.language.specs.Refusals.{refused_by, refusal_in};
@@ -16,7 +18,7 @@ const QUOTE: u8 = 5;
 const UNQUOTE: u8 = 6;
 
 // What the call reports: its outcome and the script's length.
-#[derive(Drop)]
+#[derive(Clone, Copy)]
 pub struct ScriptReport {
     pub outcome: u32,
     pub length: u32,

@@ -4,7 +4,7 @@ ghost use Rattle.language.specs.BuiltIns.{needs};
 
 use decimal::operations::Operation;
 
-#[derive(Drop)]
+#[derive(Clone, Copy)]
 pub enum BuiltIn {
     Def,
     Val,

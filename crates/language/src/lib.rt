@@ -1,5 +1,7 @@
 // The signs, the limits, the refusals, the outcomes, the built-ins and the rules of documents 01 and 02 as values of the code. The
 // rest of this crate is definitions and theorems.
+#![tactic(auto)]
+
 pub mod built_ins;
 pub mod outcomes;
 pub mod refusals;
@@ -20,7 +22,7 @@ pub fn standard_kinds() -> [u8; 256]
 }
 
 // The sizes of the text, the cells and the output lent.
-#[derive(Drop)]
+#[derive(Clone, Copy)]
 pub struct Sizes {
     pub text: usize,
     pub cells: usize,

@@ -6,7 +6,7 @@ ghost use Rattle.language.specs.Refusals.{refused_by, not_a_table, has_kind, cou
 use crate::{Sizes, outcomes};
 
 // What the checks of a call came to.
-#[derive(Drop)]
+#[derive(Clone, Copy)]
 pub enum Verdict {
     Accepted,
     Refused(u32),

@@ -1,4 +1,6 @@
 // Strachey's macrogenerator in lent cells: the standing of a run, and the one call that makes scans.
+#![tactic(auto)]
+
 mod apply;
 mod builtins;
 mod give;

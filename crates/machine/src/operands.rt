@@ -13,7 +13,7 @@ use decimal::reader::{Operand, Reader};
 use language::built_ins::BuiltIn;
 
 // The built-in that has a name, or that none has it.
-#[derive(Drop)]
+#[derive(Clone, Copy)]
 pub enum Named {
     Known(BuiltIn),
     Unknown,

@@ -8,7 +8,7 @@ ghost use Rattle.machine.specs.Moving.{places_below, is_in_range};
 use language::Sizes;
 
 // The calls being collected: where their cells end, the innermost one, and the length cell of its argument in hand.
-#[derive(Drop)]
+#[derive(Clone, Copy)]
 pub struct Calls {
     pub left: usize,
     pub call: usize,
@@ -16,7 +16,7 @@ pub struct Calls {
 }
 
 // The body being read: its list, the definition that it reads and how far.
-#[derive(Drop)]
+#[derive(Clone, Copy)]
 pub struct Source {
     pub list: usize,
     pub body: usize,
@@ -24,7 +24,7 @@ pub struct Source {
 }
 
 // What a report counts.
-#[derive(Drop)]
+#[derive(Clone, Copy)]
 pub struct Counts {
     pub read: usize,
     pub written: usize,
@@ -34,7 +34,7 @@ pub struct Counts {
 }
 
 // NOWHERE stands for no call, and for the text.
-#[derive(Drop)]
+#[derive(Clone, Copy)]
 pub struct Run {
     pub calls: Calls,
     pub source: Source,
@@ -46,7 +46,7 @@ pub struct Run {
 
 // How a run stands: it goes on, or it ended with an outcome of document 01. Damaged: the cells hold what those of a real run
 // never do. Refused: the numbers of the standing are out of range, and nothing is touched.
-#[derive(Drop)]
+#[derive(Clone, Copy)]
 pub enum Answer {
     GoesOn,
     Ended(u32),
@@ -55,7 +55,7 @@ pub enum Answer {
 }
 
 // The next standing and the answer.
-#[derive(Drop)]
+#[derive(Clone, Copy)]
 pub struct Stepped {
     pub run: Run,
     pub answer: Answer,

@@ -1,5 +1,7 @@
 // Total helpers on lent cells and bytes. No position, count or content can make one fail: what lies outside a slice is
 // read as 0, and a write or a block that does not lie within its slice changes nothing.
+#![tactic(auto)]
+
 ghost use Rattle.std.specs.Prelude.{◌≡◌, ◌&&◌, ◌+◌, ◌≤◌, length, get_or, set, leb};
 ghost use Rattle.memory.specs.Block.{moved, copied, low_bytes, same_blocks, same_bytes, repeated, filled};
 

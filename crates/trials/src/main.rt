@@ -1,6 +1,8 @@
 // Runs the expander on every row of scripts.tsv, signs.tsv and origins.tsv, and on texts, cells and output of every size about the
 // limits; asks for a script for every row of keys.tsv, and for keys and output of every size about theirs. Writes a line for
 // each trial that is wrong and, at the end of each part, how many there were.
+#![tactic(auto)]
+
 mod fields;
 mod lending;
 mod pattern;

@@ -1,0 +1,23 @@
+-- A block outside its slice leaves the output as it is; otherwise each turn copies one byte more.
+use Prim.Native.Nat.{◌-◌}
+use native.Mathlib.Omega.{arith}
+use native.Mathlib.Nat.{zero-add}
+use borrow.Author.Rules.{rules}
+use lib.ListN.{length}
+use Rattle.memory.proofs.Blocks.{refused, both_in, Copying, copying_start, copying_step, copying_end}
+use Rattle.memory.proofs.copy_bytes.Goals as goal
+
+pub returns-then-not-both_lie : goal.returns-then-not-both_lie
+returns-then-not-both_lie c = rw (refused c.both_lie.ensures c.if-not-both_lie.true-raw)
+
+pub loop-done-init : goal.loop-done-init
+loop-done-init c =
+    let a = c.args in
+    let w = both_in 0 (length a.bytes.now) a.to (length a.output.now) a.count c.both_lie.ensures c.if-not-both_lie.false-raw in
+    copying_start w.0 w.1
+
+pub loop-done-preserved : goal.loop-done-preserved
+loop-done-preserved c = copying_step c.loop-done.invariant (omega arith) (rw (zero-add c.loop-done.done))
+
+pub returns : goal.returns
+returns c = copying_end c.loop-done.invariant (omega arith)

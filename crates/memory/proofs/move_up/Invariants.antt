@@ -1,0 +1,15 @@
+-- With `due` turns to go all but the first `due` cells of the block are placed. The last of those lies below what has been
+-- written, so it is still the one that stood there at the start.
+use Prim.Native.Nat.{◌-◌, ◌≤◌}
+use mathlib.Core.Path.{sym, ◌∙◌}
+use native.Mathlib.Omega.{arith}
+use borrow.Author.Rules.{rules}
+use Rattle.memory.specs.Block.{block}
+use Rattle.memory.proofs.Blocks.{Falling, falling_start, falling_step, falling_end, falling_ahead, block-length, block_at, moved_in}
+use Rattle.memory.proofs.move_up.Given as goal
+
+abbrev pub invariant-loop-due : goal.invariant-loop-due
+invariant-loop-due l = (l.due ≤ l.count) × Falling l.to (block l.from l.count l.initial.cells) l.initial.cells l.due l.cells
+
+abbrev pub decreases-loop-due : goal.decreases-loop-due
+decreases-loop-due l = l.due
