@@ -163,6 +163,7 @@ altered_stays k h (x ∷ ds) fair =
 -- what is found is the definition with its number
 newest_content : (n : Bytes) (ds : List Definition) {k : ℕ} {c : Content} → newest n ds ≡ found k c → {d : Definition} → Numbered d k ds → d.content ≡ c
 unfolding newest
+newest_content n [] {k = k} {c = c} e {d = d} p = elim p [ ]
 newest_content n (x ∷ ds) {k} {c} e (here q) =
     by (λ f. f ≡ found k c → x.content ≡ c) (same n x.name) (λ t e. cc) (λ t e. absurd (omega (arith, newest-stands n ds k c e))) e
 newest_content n (x ∷ ds) {k} {c} e {d} (there p) =
@@ -397,7 +398,7 @@ pub stop_keeps : (L : Limits) (G : Language) (s : State) {e : End} → S.scan L 
 stop_keeps L G s p = on_stop (scan_passes L G s) p
 
 -- from scan to scan
-stands_keeps : (L : Limits) (G : Language) {N : ℕ} {s s' : State} {k j : ℕ} {d : Definition} → StandsTo L G s' j s k → Invariant N s
+stands_keeps : (L : Limits) (G : Language) {N : ℕ} {s' : State} {j : ℕ} {s : State} {k : ℕ} {d : Definition} → StandsTo L G s' j s k → Invariant N s
     → Numbered d k s.standing.definitions → is_locked d.content ≡ true → Numbered d j s'.standing.definitions
 stands_keeps L G {s = s} {d = d} (arrived e) i p l = subst (λ (k : ℕ). Numbered d k s.standing.definitions) e p
 stands_keeps L G {N} {s} (goes e n t) i p l = stands_keeps L G t (on_next (invariant_kept L N G s i) e) (scan_keeps L G i e p l n) l

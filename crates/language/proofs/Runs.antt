@@ -27,7 +27,7 @@ module _ (G : Language) where
     any : {s : State} → Lasts zero s
     one : {n : ℕ} {s s' : State} → scan s ≡ next s' → Lasts n s' → Lasts (suc n) s
 
-  pub join : {s s' : State} {t : Step} → Gets (next s') s → Gets t s' → Gets t s
+  pub join : {t : Step} {s' s : State} → Gets (next s') s → Gets t s' → Gets t s
   join (now e) h = later e h
   join (later e g) h = later e (join g h)
 
@@ -38,7 +38,7 @@ module _ (G : Language) where
       go zero l = any
       go (suc n) (one e l) = one e (go n l)
 
-  pub lasts : {n : ℕ} {s s' : State} → Gets (next s') s → Lasts n s' → Lasts (suc n) s
+  pub lasts : {n : ℕ} {s' s : State} → Gets (next s') s → Lasts n s' → Lasts (suc n) s
   lasts (now e) l = one e l
   lasts (later e g) l = one e (fewer (lasts g l))
 
@@ -81,12 +81,12 @@ module _ (G : Language) where
       go (next s') q p ih = later q (ih s' p)
       go (stop e') q p ih = now (q ∙ sym (scans_stop no_limits G n e') ∙ p)
 
-  pub gets_scans : {s : State} {e : End} → Gets (stop e) s → (n : ℕ) × (scans n (next s) ≡ stop e)
+  pub gets_scans : {e : End} {s : State} → Gets (stop e) s → (n : ℕ) × (scans n (next s) ≡ stop e)
   unfolding S.scans
   gets_scans (now p) = (1, p)
   gets_scans (later p g) = let r = gets_scans g in (suc r.0, rw p r.1)
 
-  pub gets_once : {s : State} {e e' : End} → Gets (stop e) s → Gets (stop e') s → e ≡ e'
+  pub gets_once : {e e' : End} {s : State} → Gets (stop e) s → Gets (stop e') s → e ≡ e'
   gets_once (now p) (now p') = cc
   gets_once (now p) (later p' g') = not_end (sym p' ∙ p)
   gets_once (later p g) (now p') = not_end (sym p ∙ p')

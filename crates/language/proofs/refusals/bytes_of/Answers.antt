@@ -1,6 +1,5 @@
 -- `count` is that of the bytes below `byte`.
 use Prim.Native.Nat.{◌-◌}
-use mathlib.Core.Logic.{⊎_elim}
 use native.Mathlib.Omega.{arith}
 use lib.ListN.{get_or}
 use borrow.Author.Tests.{eq-eqb, ne_eqb}
@@ -8,6 +7,7 @@ use Rattle.language.specs.Refusals.{has_kind}
 use Rattle.language.proofs.Accepted.{Counted, counted_start, counted_one, counted_none, counted_end}
 use borrow.Author.Rules.{rules}
 use Rattle.language.proofs.refusals.bytes_of.Goals as goal
+use Rattle.language.proofs.refusals.bytes_of.Goals.{then-signs-byte, else-signs-byte}
 
 pub loop-byte-init : goal.loop-byte-init
 loop-byte-init c = counted_start
@@ -17,10 +17,10 @@ loop-byte-preserved c =
     let a = c.args in
     let l = c.loop-byte in
     let kind = get_or a.signs.now l.byte 0 in
-    ⊎_elim
-    (λ w. rw w.1 (counted_one l.invariant (omega arith) (eq-eqb kind a.kind w.0.taken)))
-    (λ w. rw w.1 (counted_none l.invariant (omega arith) (ne_eqb kind a.kind w.0.left)))
-    c.if-signs-byte.branch
+    elim c.if-signs-byte.branch [
+      then-signs-byte w ↦ rw w.count-is (counted_one l.invariant (omega arith) (eq-eqb kind a.kind w.if-signs-byte.true))
+    | else-signs-byte w ↦ rw w.count-is (counted_none l.invariant (omega arith) (ne_eqb kind a.kind w.if-signs-byte.false))
+    ]
 
 pub returns : goal.returns
 returns c = counted_end c.loop-byte.invariant (omega arith)

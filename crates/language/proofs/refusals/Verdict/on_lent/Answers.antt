@@ -6,8 +6,8 @@ use Rattle.language.proofs.refusals.Verdict.on_lent.Goals as goal
 
 pub returns-then-too_large : goal.returns-then-too_large
 unfolding refused_by
-returns-then-too_large c = rw (sym c.too_large_lem.ensures ∙ c.if-too_large.true)
+returns-then-too_large c = rw (sym c.too_large.ensures ∙ c.if-too_large.true)
 
 pub returns : goal.returns
 unfolding refused_by
-returns c = rw (sym c.too_large_lem.ensures ∙ c.if-too_large.false) c.on_signs.ensures
+returns c = rw (sym c.too_large.ensures ∙ c.if-too_large.false) c.on_signs.ensures
