@@ -295,7 +295,7 @@ pub at_cells : {n base : ℕ} {l : List ℕ} {p : ℕ} {its : List Item} {d k : 
 at_cells {p = p} h (here {f = f} {name = name} {value = value} {spare = spare} {d = d} e q) =
     let x : d ≡ p = omega (arith, h.ends) in
     (name, length value + length spare, ltb 0 f.lock, rw (x, q) (defines_here h))
-at_cells h (there {i} a) = let r = at_cells (holds_rest h) a in (r.0, r.1, r.2, defines_there (omega arith) r.3)
+at_cells {p = p} h (there {i} a) = let r = at_cells {p = p + length (encode_item i)} (holds_rest h) a in (r.0, r.1, r.2, defines_there (omega arith) r.3)
 
 -- The lists of the bodies --------------------------------------------------------------------------------------------
 
@@ -651,7 +651,7 @@ pub list_cells : {n base : ℕ} {l : List ℕ} {right : ℕ} (fs : List Frame) {
     → HoldsItems n l right (items n base fs) → bodies n base fs ≡ b ∷ bs → Listed n base l right (places n base fs).list b bs
 unfolding laid Valid bodies
 list_cells [] v h e = let z : ◌≡◌ {A = ℕ} 0 1 = cc in absurd (omega arith)
-list_cells (made f name value spare ∷ fs) v h e = listed_there (omega arith) (list_cells fs v (holds_rest h) e)
+list_cells {right = right} (made f name value spare ∷ fs) v h e = listed_there (omega arith) (list_cells {right = right + length (encode_item (defined f name value spare))} fs v (holds_rest h) e)
 list_cells (collects ended hand waits ∷ fs) v h e = list_cells fs v h e
 list_cells {n} {base} {l} {right} (reads list since d k x o ∷ fs) {b} {bs} v h e =
     let u = places n base fs in

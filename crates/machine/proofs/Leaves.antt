@@ -8,6 +8,7 @@ use mathlib.Core.List.{List, [], ◌∷◌}
 use borrow.Author.Tests.{ltb-false, leb-false, eq-eqb, ne_eqb}
 use lib.ListN.{length, get_or}
 use lib.Dec.{eqb, ltb, leb}
+use borrow.Enum.Refused.{Among, opened}
 use types.Run.{OneOf}
 use denote.Enum.Declared.{tag_of}
 use Rattle.decimal.specs.declared.operations.Operation.{Operation}
@@ -28,16 +29,19 @@ use Rattle.machine.specs.Machine.{After, Indexed, keeping, unindexed, Resulting,
 use Rattle.machine.specs.contracts.run.Answer.{the_type}
 
 -- an answer of another kind does not go on
-pub ended : (a : Answer) → OneOf (1 ∷ 2 ∷ 3 ∷ []) (tag_of the_type a) → goes_on a ≡ false
-ended GoesOn (inl h) = absurd (omega arith)
-ended GoesOn (inr (inl h)) = absurd (omega arith)
-ended GoesOn (inr (inr h)) = absurd (omega arith)
-ended (Ended n) h = refl
-ended Damaged h = refl
-ended Refused h = refl
+pub ended : (a : Answer) → Among (1 ∷ 2 ∷ 3 ∷ []) (tag_of the_type a) → goes_on a ≡ false
+ended a h = by_kind a (opened h)
+  where
+    by_kind : (a : Answer) → OneOf (1 ∷ 2 ∷ 3 ∷ []) (tag_of the_type a) → goes_on a ≡ false
+    by_kind GoesOn (inl h) = absurd (omega arith)
+    by_kind GoesOn (inr (inl h)) = absurd (omega arith)
+    by_kind GoesOn (inr (inr h)) = absurd (omega arith)
+    by_kind (Ended n) h = refl
+    by_kind Damaged h = refl
+    by_kind Refused h = refl
 
 -- so it is not that one
-pub not_on : (a : Answer) → OneOf (1 ∷ 2 ∷ 3 ∷ []) (tag_of the_type a) → a ≡ GoesOn → ⊥
+pub not_on : (a : Answer) → Among (1 ∷ 2 ∷ 3 ∷ []) (tag_of the_type a) → a ≡ GoesOn → ⊥
 not_on a h e = true≢false (ap goes_on (sym e) ∙ ended a h)
 
 -- DEF turns an empty name away

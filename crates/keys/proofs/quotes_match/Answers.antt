@@ -1,0 +1,36 @@
+-- The first `done` bytes lead to `depth`.
+use Prim.Native.Nat.{◌-◌}
+use mathlib.Core.Path.{sym, ap, subst}
+use mathlib.Core.Logic.{⊎_elim}
+use native.Mathlib.Omega.{arith}
+use lib.ListN.{length}
+use Rattle.language.specs.Signs.{sign_of_kind}
+use Rattle.keys.proofs.Matching.{Matching, matching_start, matching_step, matching_lost, matching_end}
+use borrow.Author.Rules.{rules}
+use Rattle.keys.proofs.depth_by.Reads as depth-by-reads
+use Rattle.keys.proofs.quotes_match.Goals as goal
+
+pub loop-done-init : goal.loop-done-init
+loop-done-init c = matching_start
+
+pub overflow_cast-kind : goal.overflow_cast-kind
+overflow_cast-kind c = omega (arith, (c.type_inv.wanted c.loop-done.done).fits)
+
+pub bounds-signs-wanted : goal.bounds-signs-wanted
+bounds-signs-wanted c = omega (arith, (c.type_inv.wanted c.loop-done.done).fits, c.requires)
+
+pub returns-then-depth-eq0 : goal.returns-then-depth-eq0
+returns-then-depth-eq0 c =
+    let l = c.loop-done in
+    sym (matching_lost (subst (Matching _ _ l.done) c.if-depth-eq0.true l.invariant) (omega arith) (ap sign_of_kind c.if-kind-eq-UNQUOTE.true))
+
+pub depth_by-depth-requires : goal.depth_by-depth-requires
+depth_by-depth-requires c =
+    let l = c.loop-done in
+    (omega (arith, l.invariant.below, l.invariant.inside), λ u. ⊎_elim (λ w. let some_open = w.1.left in omega arith) (λ w. absurd (w.left u)) c.if-kind-eq-UNQUOTE.branch)
+
+pub loop-done-preserved : goal.loop-done-preserved
+loop-done-preserved c = matching_step c.loop-done.invariant (omega arith) c.depth_by-depth.ensures
+
+pub returns : goal.returns
+returns c = sym (matching_end c.loop-done.invariant (omega arith))

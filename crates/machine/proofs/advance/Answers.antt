@@ -1,0 +1,39 @@
+-- Between two scans what is due leads where all leads. The measure is what is due.
+use Prim.Native.Nat.{◌-◌}
+use mathlib.Core.Path.{refl}
+use native.Mathlib.Omega.{arith}
+use lib.ListN.{length}
+use borrow.Author.Rules.{rules}
+use Rattle.language.specs.Expansion.{lent}
+use Rattle.machine.proofs.Leaves.{not_on}
+use Rattle.machine.proofs.Advancing.{Going, begins, ready_of, once_more, again, ends, done}
+use Rattle.machine.proofs.advance.Goals as goal
+
+pub loop-run-init : goal.loop-run-init
+loop-run-init c =
+    begins _ _ _ _ c.args.from c.args.heads.now (lent c.args.cells.now c.args.output.now) c.args.due refl refl (λ i. (c.type_inv.cells i).fits) c.requires.0 c.requires.1
+
+pub step-st-requires : goal.step-st-requires
+step-st-requires c =
+    ready_of _ _ _ _ c.loop-run.invariant c.loop-run-test.true
+
+pub returns-in_default : goal.returns-in_default
+returns-in_default c =
+    let g = c.loop-run.invariant in
+    ends _ _ _ _ g c.loop-run-test.true _ c.step-st.ensures (omega (arith, c.cells-1.given, g.cells)) (omega (arith, c.output-1.given, g.output)) _ _ _ refl
+    (not_on c.step-st.result.answer c.in_default.in_default-own.keys2) refl refl
+
+pub loop-run-smaller : goal.loop-run-smaller
+loop-run-smaller c =
+    let g = c.loop-run.invariant in
+    let e = once_more _ _ _ _ g c.loop-run-test.true _ c.step-st.ensures (omega (arith, c.cells-1.given, g.cells)) (omega (arith, c.output-1.given, g.output)) c.in-GoesOn.is in
+    omega (arith, c.loop-run-test.true)
+
+pub loop-run-preserved : goal.loop-run-preserved
+loop-run-preserved c =
+    let g = c.loop-run.invariant in
+    again _ _ _ _ g c.loop-run-test.true _ c.step-st.ensures (omega (arith, c.cells-1.given, g.cells)) (omega (arith, c.output-1.given, g.output))
+    (λ i. (c.type_inv.cells i).fits) c.in-GoesOn.is
+
+pub returns : goal.returns
+returns c = rw c.goes_on.ensures (done _ _ _ _ c.loop-run.invariant c.loop-run-test.false refl refl)

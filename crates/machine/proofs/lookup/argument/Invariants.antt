@@ -1,0 +1,16 @@
+-- With the arguments that are due, the walk from the present position answers what the whole walk answers.
+-- The measure is what is due.
+use Prim.Native.Nat.{◌+◌, ◌*◌, ◌≤◌}
+use mathlib.Core.Path.{◌≡◌, refl}
+use native.Mathlib.Omega.{arith}
+use borrow.Author.Tests.{le-leb, lt-leb}
+use borrow.Author.Rules.{rules}
+use Rattle.machine.specs.Walks.{argument}
+use Rattle.machine.proofs.Turns.{argument_done, argument_turn}
+use Rattle.machine.proofs.lookup.argument.Given as goal
+
+abbrev pub invariant-loop-due : goal.invariant-loop-due
+invariant-loop-due l = (argument l.cells l.position l.due ≡ argument l.cells l.from l.index) × (l.position + l.due * 65536 ≤ l.from + l.index * 65536)
+
+abbrev pub decreases-loop-due : goal.decreases-loop-due
+decreases-loop-due l = l.due

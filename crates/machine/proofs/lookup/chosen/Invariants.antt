@@ -1,0 +1,15 @@
+-- With the turns that are left, the walk over the pairs behind the present argument answers what the whole walk answers.
+-- The measure is the turns.
+use mathlib.Core.Path.{◌≡◌, refl}
+use native.Mathlib.Omega.{arith}
+use borrow.Author.Tests.{le-leb, lt-leb, eq-eqb, ne_eqb}
+use borrow.Author.Rules.{rules}
+use Rattle.machine.specs.Walks.{chosen_from, chosen}
+use Rattle.machine.proofs.Turns.{told, chosen_done, chosen_turn}
+use Rattle.machine.proofs.lookup.chosen.Given as goal
+
+abbrev pub invariant-loop-turns : goal.invariant-loop-turns
+invariant-loop-turns l = chosen_from l.turns l.cells l.position ≡ chosen l.cells l.name
+
+abbrev pub decreases-loop-turns : goal.decreases-loop-turns
+decreases-loop-turns l = l.turns

@@ -1,0 +1,13 @@
+-- What is placed is placed where the call has ended.
+use mathlib.Core.Path.{refl}
+use borrow.Author.Rules.{rules}
+use Rattle.machine.proofs.Leaves.{ended, placed_on}
+use Rattle.machine.proofs.run.Run.give_block.Goals as goal
+
+pub returns-in_default : goal.returns-in_default
+returns-in_default c =
+    rw (← c.give-st.ensures _ refl, ended _ c.in_default.in_default-own.keys2)
+
+pub returns : goal.returns
+returns c =
+    rw c.place_block.ensures (placed_on _ (c.give-st.ensures c.args.output.now refl) c.in-GoesOn.is)

@@ -1,0 +1,21 @@
+-- What was written is noted, and nothing is where nothing was or none is to be noted.
+use Prim.Native.Nat.{◌-◌}
+use mathlib.Core.Path.{◌≡◌}
+use native.Mathlib.Omega.{arith}
+use Rattle.memory.proofs.Blocks.{filled_none}
+use Rattle.machine.specs.Walks.{cell}
+use borrow.Author.Rules.{rules}
+use Rattle.machine.proofs.run.Run.note.Goals as goal
+
+pub returns-then-silent : goal.returns-then-silent
+returns-then-silent c = rw c.if-silent.true
+
+pub returns-then-end-from : goal.returns-then-end-from
+returns-then-end-from c =
+    rw (c.if-silent.false, c.fill.ensures, c.fill-then-end-from.ensures, c.cell.ensures)
+
+pub returns-else-end-from : goal.returns-else-end-from
+returns-else-end-from c =
+    let a = c.args in
+    let none : a.after.counts.written - a.self.counts.written ≡ 0 = omega arith in
+    rw (c.if-silent.false, none, filled_none a.self.counts.written (cell a.after.counts.read) a.origins.now, filled_none a.self.counts.written a.rule a.rules.now)

@@ -1,0 +1,12 @@
+-- By whether a call is open, to the output or to its argument in hand.
+use borrow.Author.Tests.{eq-eqb, ne_eqb}
+use borrow.Author.Rules.{rules}
+use Rattle.machine.proofs.run.Run.put.Goals as goal
+
+pub returns-then-self-eq-NOWHERE : goal.returns-then-self-eq-NOWHERE
+returns-then-self-eq-NOWHERE c =
+    rw (eq-eqb _ _ c.if-self-eq-NOWHERE.true) (c.write.ensures _)
+
+pub returns : goal.returns
+returns c =
+    rw (ne_eqb _ _ c.if-self-eq-NOWHERE.false) (c.collect.ensures _)

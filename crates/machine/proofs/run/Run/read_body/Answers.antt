@@ -1,0 +1,7 @@
+-- The list is moved, and what its cells say of the call around is handed on.
+use borrow.Author.Rules.{rules}
+use Rattle.machine.proofs.run.Run.read_body.Goals as goal
+
+pub returns : goal.returns
+returns c =
+    λ o. rw (c.goes_on.ensures, c.body_begun.ensures, c.move_list.ensures, c.return_link-around.ensures)

@@ -1,0 +1,12 @@
+-- With no open call the byte is written, else the argument in hand is ended.
+use borrow.Author.Tests.{eq-eqb, ne_eqb}
+use borrow.Author.Rules.{rules}
+use Rattle.machine.proofs.run.Run.separate.Goals as goal
+
+pub returns-then-self-eq-NOWHERE : goal.returns-then-self-eq-NOWHERE
+returns-then-self-eq-NOWHERE c =
+    rw (eq-eqb _ _ c.if-self-eq-NOWHERE.true) (c.write.ensures _)
+
+pub returns : goal.returns
+returns c =
+    rw (ne_eqb _ _ c.if-self-eq-NOWHERE.false) (c.end_by_comma.ensures _)
