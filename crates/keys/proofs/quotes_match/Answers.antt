@@ -1,7 +1,6 @@
 -- The first `done` bytes lead to `depth`.
 use Prim.Native.Nat.{◌-◌}
 use mathlib.Core.Path.{sym, ap, subst}
-use mathlib.Core.Logic.{⊎_elim}
 use native.Mathlib.Omega.{arith}
 use lib.ListN.{length}
 use Rattle.language.specs.Signs.{sign_of_kind}
@@ -9,6 +8,7 @@ use Rattle.keys.proofs.Matching.{Matching, matching_start, matching_step, matchi
 use borrow.Author.Rules.{rules}
 use Rattle.keys.proofs.depth_by.Reads as depth-by-reads
 use Rattle.keys.proofs.quotes_match.Goals as goal
+use Rattle.keys.proofs.quotes_match.Goals.{then-kind-eq-UNQUOTE+else-depth-eq0, else-kind-eq-UNQUOTE}
 
 pub loop-done-init : goal.loop-done-init
 loop-done-init c = matching_start
@@ -27,7 +27,10 @@ returns-then-depth-eq0 c =
 pub depth_by-depth-requires : goal.depth_by-depth-requires
 depth_by-depth-requires c =
     let l = c.loop-done in
-    (omega (arith, l.invariant.below, l.invariant.inside), λ u. ⊎_elim (λ w. let some_open = w.1.left in omega arith) (λ w. absurd (w.left u)) c.if-kind-eq-UNQUOTE.branch)
+    (omega (arith, l.invariant.below, l.invariant.inside), λ u. elim c.if-kind-eq-UNQUOTE.branch [
+      then-kind-eq-UNQUOTE+else-depth-eq0 w ↦ let some_open = w.if-depth-eq0.false in omega arith
+    | else-kind-eq-UNQUOTE w ↦ absurd (w.if-kind-eq-UNQUOTE.false u)
+    ])
 
 pub loop-done-preserved : goal.loop-done-preserved
 loop-done-preserved c = matching_step c.loop-done.invariant (omega arith) c.depth_by-depth.ensures
