@@ -84,21 +84,14 @@ pub fn expand_origins(
     expand_accepted(&kinds, text, cells, output, origins, rules, allowance)
 }
 
-// For C callers: each slice is a pointer and a length, and the report is returned by value.
-#[unsafe(no_mangle)]
-pub extern "C" fn gpm_expand(
-    text: &[u8],
-    cells: &mut [u32],
-    output: &mut [u8],
-    allowance: u64,
-) -> Report
+// What C callers are given: the calls of the same names in expander_c are these.
+pub fn gpm_expand(text: &[u8], cells: &mut [u32], output: &mut [u8], allowance: u64) -> Report
     ensures { Expanded (given standard text.now (lent cells.old output.old) allowance) (returned result (lent cells.new output.new)) }
 {
     expand(text, cells, output, allowance)
 }
 
-#[unsafe(no_mangle)]
-pub extern "C" fn gpm_expand_signs(
+pub fn gpm_expand_signs(
     signs: &[u8],
     text: &[u8],
     cells: &mut [u32],
@@ -110,8 +103,7 @@ pub extern "C" fn gpm_expand_signs(
     expand_signs(signs, text, cells, output, allowance)
 }
 
-#[unsafe(no_mangle)]
-pub extern "C" fn gpm_expand_origins(
+pub fn gpm_expand_origins(
     signs: &[u8],
     text: &[u8],
     cells: &mut [u32],
@@ -127,8 +119,7 @@ pub extern "C" fn gpm_expand_origins(
 
 // For a recorder of keys: a script for the wanted bytes with the standard signs, and the outcome and the script's length in one
 // number.
-#[unsafe(no_mangle)]
-pub extern "C" fn gpm_script(wanted: &[u8], output: &mut [u8]) -> u64
+pub fn gpm_script(wanted: &[u8], output: &mut [u8]) -> u64
     ensures { Numbered (asked standard wanted.now output.old) result output.new }
 {
     let kinds = language::standard_kinds();
