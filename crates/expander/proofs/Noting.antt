@@ -1,5 +1,5 @@
 -- A whole run of the machine that notes its origins.
-use Prim.Native.Nat.{ℕ, ◌+◌, ◌-◌, ◌≤◌, min}
+use Prim.Native.Nat.{ℕ, ◌-◌, ◌≤◌, min}
 use native.Mathlib.Omega.{arith}
 use native.Mathlib.Nat.{zero-add}
 use mathlib.Core.Path.{◌≡◌, sym, ap, ◌∙◌}
@@ -14,7 +14,7 @@ use Rattle.language.specs.Octets.{Octets}
 use Rattle.language.specs.BuiltIns.{built_ins}
 use Rattle.language.specs.Scanning as S
 use Rattle.language.specs.Expansion.{Lent, given, Returned, refusals, overwritten, expanded}
-use Rattle.language.specs.Origins.{origins, reads_of, rules_of, Numbers, numbers, GivenNumbers, ReturnedNumbers, returned_with, short_numbers, noted, answered_with, expanded_origins, ExpandedOrigins}
+use Rattle.language.specs.Origins.{origins, reads_of, rules_of, Numbers, numbers, GivenNumbers, ReturnedNumbers, returned_with, short_numbers, answered_with, expanded_origins, ExpandedOrigins}
 use Rattle.language.proofs.Origins.{accepted_as, ordinary, origins-expanded}
 use Rattle.language.specs.Groups.{groups}
 use Rattle.machine.specs.Index.{no_heads}

@@ -16,7 +16,6 @@ use Rattle.language.specs.BuiltIns.{built_ins}
 use Rattle.language.specs.Matched.{All, empty, with}
 use Rattle.language.specs.Octets.{Octets}
 use Rattle.language.specs.Expansion.{overwritten}
-use Rattle.language.specs.Expansion as E
 use Rattle.language.proofs.Accepted.{accepted_exactly, refused_none, refused_with, behind_none, behind_some, both_none}
 use Rattle.keys.specs.Scripts.{Asked, Answered, number_of, script, wanted_limit, too_long, matched, lent_refusals, script_refusals, refusals, answered_by, answered, NoScript, Promised, Scripted, Numbered}
 use Rattle.keys.proofs.Scripts.{script-length, is_matched, script_expands, none_exactly}

@@ -17,7 +17,7 @@ use Rattle.language.specs.Scanning as S
 use Rattle.language.specs.Expansion.{Lent, lent}
 use Rattle.language.proofs.Prices.{arguments_last}
 use Rattle.machine.specs.declared.run.Run.{Run}
-use Rattle.machine.specs.Walks.{mark, packed, cell, definitions}
+use Rattle.machine.specs.Walks.{mark, packed, cell}
 use Rattle.machine.specs.Machine as M
 use Rattle.machine.proofs.Items.{arguments_size, encode_arguments_last}
 use Rattle.machine.proofs.Stack.{left_is as framesLeft}

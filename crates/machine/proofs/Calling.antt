@@ -20,7 +20,7 @@ use Rattle.machine.specs.Walks.{list_overhead, mark, packed, high, low, definiti
 use Rattle.machine.specs.Machine as M
 use Rattle.machine.proofs.Items.{encode-append, width-append, width-cons, count-append, definitions-append, arguments_size, list_size}
 use Rattle.machine.proofs.Stack.{left_is as framesLeft}
-use Rattle.machine.proofs.Represents.{goes, calls_charge, right_charge, definitions_width}
+use Rattle.machine.proofs.Represents.{calls_charge, right_charge, definitions_width}
 use Rattle.machine.proofs.Finds.{definitions-count}
 use Rattle.machine.proofs.Indexing.{removed_in}
 use Rattle.machine.proofs.Applying.{Applied, list_of}

@@ -32,7 +32,7 @@ use Rattle.machine.proofs.Finds.{HoldsItems, at_cells, Listed, list_cells, argum
 use Rattle.machine.proofs.Putting.{refusal, copy_block}
 use Rattle.machine.proofs.Counting.{advanced}
 use Rattle.machine.specs.Items.{encode, encode_arguments}
-use Rattle.machine.specs.Frames.{Places, reads, items, places, bodies}
+use Rattle.machine.specs.Frames.{Places, items, places}
 use Rattle.machine.specs.Held.{Represents}
 
 -- a block of bytes is the same in the low bits of the cells

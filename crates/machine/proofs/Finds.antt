@@ -8,17 +8,16 @@ use lib.ListN.{length, take, drop, get_or, length-append}
 use lib.Seq.{get_or-drop, drop-drop, take_at, drop_at}
 use lib.Dec.{eqb, leb, ltb}
 use borrow.Author.Tests.{le-leb, lt-leb, eq-eqb, ne_eqb, eqb-true, eqb-false}
-use Rattle.language.specs.Expansion.{lent}
 use Rattle.language.specs.Signs.{Bytes}
 use Rattle.language.specs.Definitions.{Macro, Definition, found, macro, among}
 use Rattle.language.specs.Definitions as D
 use Rattle.language.specs.Charge.{arguments_price, list_price}
-use Rattle.language.specs.Groups.{groups, group, of_group}
+use Rattle.language.specs.Groups.{group, of_group}
 use Rattle.language.proofs.Groups.{group_below, other_group, group-length}
 use Rattle.language.specs.Scanning.{Body, reading}
 use Rattle.memory.specs.Block.{block, same, same_blocks}
 use Rattle.memory.proofs.Blocks.{ne_same, same_true, same_blocks_in}
-use Rattle.machine.specs.Walks.{head_size, arguments_from, list_overhead, is_locked, name_length, room, value_length, group_link, name_group, definition_group, right_before, list_link, return_link, nowhere, mark, packed, high, low, argument, size, newest_from, newest, definitions_from, definitions, is_read_from, is_read}
+use Rattle.machine.specs.Walks.{head_size, arguments_from, list_overhead, is_locked, name_length, room, value_length, group_link, definition_group, right_before, list_link, return_link, nowhere, mark, packed, high, low, argument, size, newest_from, newest, definitions_from, definitions, is_read_from, is_read}
 use Rattle.machine.proofs.Items.{count-width, list_size, definition_size, width-append, width-cons}
 use Rattle.machine.specs.Items.{Head, Item, defined, listed, encode_arguments, encode_item, encode, width, macro_of, definition_of, definitions_of, count, Definitions}
 use Rattle.machine.specs.Frames.{Frame, made, collects, reads, address, At, here, there, list_item, laid, items, places, bodies, Valid}

@@ -1,11 +1,11 @@
 -- The index holds what stands, at every scan; a lookup by it finds what reading all finds; and what each walk costs.
-use Prim.Native.Nat.{ℕ, zero, suc, ◌+◌, ◌-◌, ◌≤◌, ◌<◌}
+use Prim.Native.Nat.{ℕ, zero, suc, ◌+◌, ◌≤◌}
 use native.Mathlib.Omega.{arith}
 use mathlib.Core.Path.{◌≡◌, refl, sym, ap, ◌∙◌}
 use mathlib.Core.Bool.{Bool, true, false, cond}
 use mathlib.Core.List.{List, [], ◌∷◌, ◌++◌}
 use lib.ListN.{length, drop}
-use lib.Dec.{eqb, leb}
+use lib.Dec.{eqb}
 use borrow.Author.Tests.{le-leb, lt-leb, ne_eqb, eqb-true}
 use Rattle.language.specs.Signs.{Bytes, Table, language, cells_limit}
 use Rattle.language.specs.Definitions.{Definition, macro}
@@ -21,7 +21,7 @@ use Rattle.machine.specs.Walks.{nowhere, mark, newest}
 use Rattle.machine.specs.Machine.{Indexed, fresh, goes, keeping, steps}
 use Rattle.machine.specs.Items.{Item, defined, listed, encode_item, encode, width, definitions_of, count, Definitions}
 use Rattle.machine.specs.Frames.{address, items}
-use Rattle.machine.specs.Index.{newest_in, Linked, Index, no_heads}
+use Rattle.machine.specs.Index.{newest_in, Linked, no_heads}
 use Rattle.machine.specs.Held.{definition_at, group_held_from, Represents}
 use Rattle.machine.specs.Grouped.{Grouped, Indexes, content_at, position_after}
 use Rattle.machine.proofs.Items.{width-cons}

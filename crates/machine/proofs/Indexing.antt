@@ -4,18 +4,18 @@ use native.Mathlib.Omega.{arith}
 use mathlib.Core.Path.{◌≡◌, refl, sym, ap, subst, ◌∙◌}
 use mathlib.Core.Bool.{Bool, true, false, cond, true≢false}
 use mathlib.Core.List.{List, [], ◌∷◌, ◌++◌, append_assoc}
-use lib.ListN.{length, take, drop, get_or, set, length-append, length-set}
+use lib.ListN.{length, drop, get_or, set, length-append, length-set}
 use lib.Seq.{get_or-set_same, get_or-set_other, set_at, drop_at}
-use lib.Dec.{eqb, leb, ltb}
+use lib.Dec.{eqb, ltb}
 use borrow.Author.Tests.{le-leb, lt-leb, lt-ltb, le-ltb, eqb-true, eqb-false, eq-eqb, ne_eqb, ltb-true}
 use Rattle.language.specs.Signs.{Bytes}
 use Rattle.language.specs.Groups.{groups, group}
 use Rattle.language.proofs.Groups.{group_below}
-use Rattle.machine.specs.Walks.{mark, cell, head_size, size, group_link, with_group_link, definition_group, removed_at, removed_from, removed, linked_at, headed_at, link_moved, relinked_from, relinked, restored_at, restored_from, restored}
-use Rattle.machine.specs.Items.{Head, Item, defined, listed, encode_item, encode, width, definitions_of, count, Definitions}
+use Rattle.machine.specs.Walks.{mark, cell, size, group_link, with_group_link, definition_group, removed_at, removed_from, headed_at, link_moved, relinked_from, restored_from, restored}
+use Rattle.machine.specs.Items.{Head, Item, defined, listed, encode_item, encode, width, definitions_of, Definitions}
 use Rattle.machine.specs.Frames.{address}
 use Rattle.machine.specs.Index.{newest_in, Linked, Index, no_heads}
-use Rattle.machine.proofs.Items.{width-append, width-cons, definition_size, list_size}
+use Rattle.machine.proofs.Items.{width-append, width-cons, definition_size}
 use Rattle.machine.proofs.Finds.{definition_turned, item-size, drop-item, link_at, group_at}
 use Rattle.machine.proofs.Lists.{cell_is}
 

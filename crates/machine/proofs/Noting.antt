@@ -14,7 +14,7 @@ use Rattle.language.specs.Signs.{Bytes, Table, Language, language}
 use Rattle.language.specs.BuiltIns.{built_ins}
 use Rattle.language.specs.Octets.{HoldsOctets}
 use Rattle.language.specs.Scanning.{State, Step, next, stop, Limits, scan}
-use Rattle.language.specs.Expansion.{Lent, lent, limits_of}
+use Rattle.language.specs.Expansion.{Lent, limits_of}
 use Rattle.language.specs.Origins.{Writes, bytes_in, writes, Origin, each, scan_origins, origins_from, reads_of, rules_of, Numbers, numbers, too_short}
 use Rattle.language.proofs.Leads.{on_next}
 use Rattle.language.proofs.Octets.{octets_kept}

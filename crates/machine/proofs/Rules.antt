@@ -30,7 +30,7 @@ use Rattle.machine.specs.Walks.{nowhere, packed}
 use Rattle.machine.specs.Machine as M
 use Rattle.machine.specs.Origins.{fetches_next, given_by_name, rule}
 use Rattle.machine.specs.Items.{Item, defined, listed, definitions_of, encode_arguments, encode_call}
-use Rattle.machine.specs.Frames.{Places, Frame, made, collects, reads, address, laid, items, places, lefts, calls, bodies}
+use Rattle.machine.specs.Frames.{Places, Frame, made, collects, reads, address, laid, items, places, lefts, calls}
 use Rattle.machine.specs.Held.{Represents}
 use Rattle.machine.proofs.Stack.{left_is, no_call, in_text}
 use Rattle.machine.proofs.Finds.{first_of}

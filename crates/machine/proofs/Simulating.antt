@@ -29,7 +29,7 @@ use Rattle.machine.proofs.Opening.{open_sim, separate_sim, fetch_text_sim, unquo
 use Rattle.machine.proofs.Counting.{quoted, counted, taken, advanced}
 use Rattle.machine.proofs.Ending.{own_is, end_body_sim}
 use Rattle.machine.proofs.Fetching.{body_over, body_next, fetch_body_sim}
-use Rattle.machine.proofs.Applying.{list_of, applied_of}
+use Rattle.machine.proofs.Applying.{applied_of}
 use Rattle.machine.proofs.Performing.{marked_sim}
 use Rattle.machine.specs.Items.{count}
 use Rattle.machine.specs.Frames.{items, calls}

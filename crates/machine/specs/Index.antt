@@ -1,10 +1,9 @@
 -- Document 02, Thirteen: "an index of 64 groups beside the definitions .. each holding exactly its standing definitions, newest
 -- first". Beside the cells stand the heads, one for each group: where its newest definition stands, or the mark. The link of a
 -- definition says where the next older one of its group stands, so a link is a matter of what stands behind it alone.
-use Rattle.std.specs.Prelude.{ℕ, zero, suc, ◌<◌, ◌≡◌, cond, List, [], ◌∷◌, ◌++◌, length, get_or, eqb, leb}
-use Rattle.language.specs.Definitions.{Definition}
-use Rattle.language.specs.Groups.{groups, group, of_group}
-use Rattle.machine.specs.Walks.{mark, group_link}
+use Rattle.std.specs.Prelude.{ℕ, zero, suc, ◌<◌, ◌≡◌, cond, List, [], ◌∷◌, length, get_or, eqb}
+use Rattle.language.specs.Groups.{groups, group}
+use Rattle.machine.specs.Walks.{mark}
 use Rattle.machine.specs.Items.{Item, defined, listed}
 use Rattle.machine.specs.Frames.{address}
 

@@ -1,5 +1,5 @@
 -- What stands in the cells: items on the right, calls on the left, in the encoding that the code reads.
-use Rattle.std.specs.Prelude.{ℕ, ◌+◌, List, [], ◌∷◌, ◌++◌, length, eqb, ltb}
+use Rattle.std.specs.Prelude.{ℕ, ◌+◌, List, [], ◌∷◌, ◌++◌, length, ltb}
 use Rattle.language.specs.Signs.{Bytes}
 use Rattle.language.specs.Definitions.{Macro, Definition, macro}
 use Rattle.machine.specs.Walks.{mark}

@@ -9,7 +9,7 @@ use Rattle.language.specs.Signs.{is_letter, cells_limit}
 use Rattle.language.specs.Outcomes
 use Rattle.language.specs.BuiltIns.{needs}
 use Rattle.language.specs.Charge.{open_price}
-use Rattle.language.specs.Expansion.{Lent, lent}
+use Rattle.language.specs.Expansion.{Lent}
 use Rattle.machine.specs.Walks.{nowhere, mark, packed, high, low, cell, head_size, arguments_from, list_overhead, is_locked, with_lock, name_length, room, value_length, with_value_length, with_head, right_before, with_right_before, list_link, return_link, with_links, argument, newest, definitions, is_read, chosen, removed, linked_at, headed_at, relinked, restored, built_in_named, compare, calculate}
 use Rattle.decimal.specs.declared.operations.Answer as Arithmetical
 use Rattle.decimal.specs.declared.shortest.Decimal.{Decimal}

@@ -1,5 +1,4 @@
 -- The two operands are read, and the operation is on what was read.
-use borrow.Author.Rules.{rules}
 use Rattle.decimal.proofs.calculate.Goals as goal
 
 pub returns : goal.returns

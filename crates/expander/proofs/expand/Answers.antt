@@ -5,7 +5,6 @@ use Rattle.language.specs.Signs.{standard}
 use Rattle.language.specs.Expansion.{lent, given}
 use Rattle.language.proofs.Accepted.{standard-lent}
 use Rattle.expander.proofs.Running.{large, delivers}
-use borrow.Author.Rules.{rules}
 use Rattle.expander.proofs.expand.Goals as goal
 
 pub returns-then-too_large : goal.returns-then-too_large

@@ -1,7 +1,6 @@
 -- What was accepted has few enough bytes of text and cells; what ends so is reported so.
 use Rattle.language.specs.Expansion.{lent, given}
 use Rattle.expander.proofs.Running.{reports, text_fits, cells_fit}
-use borrow.Author.Rules.{rules}
 use Rattle.expander.proofs.expand_accepted.Goals as goal
 
 pub run_to_end-st-requires : goal.run_to_end-st-requires

@@ -6,7 +6,6 @@ use Rattle.language.specs.Origins.{numbers, given_with}
 use Rattle.language.proofs.Origins.{refused_as, refused_short}
 use Rattle.expander.proofs.Running.{signs_fit}
 use Rattle.expander.proofs.Noting.{expands_origins, delivers_origins}
-use borrow.Author.Rules.{rules}
 use Rattle.expander.proofs.expand_origins.Goals as goal
 
 pub returns-in-Refused : goal.returns-in-Refused

@@ -3,7 +3,6 @@ use mathlib.Core.Path.{refl, sym, ap, ◌∙◌}
 use Rattle.language.specs.Refusals.{refusal_in}
 use Rattle.language.specs.Expansion.{lent, given}
 use Rattle.expander.proofs.Running.{refuses, delivers, signs_fit}
-use borrow.Author.Rules.{rules}
 use Rattle.expander.proofs.expand_signs.Goals as goal
 
 pub returns-in-Refused : goal.returns-in-Refused

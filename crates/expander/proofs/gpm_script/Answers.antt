@@ -1,6 +1,5 @@
 -- The answer with the standard table, as one number.
 use mathlib.Core.Path.{refl}
-use borrow.Author.Rules.{rules}
 use Rattle.expander.proofs.gpm_script.Goals as goal
 
 pub returns : goal.returns

@@ -2,7 +2,6 @@
 use mathlib.Core.Path.{◌∙◌}
 use lib.ListN.{replicate}
 use Rattle.memory.proofs.Blocks.{copied_whole}
-use borrow.Author.Rules.{rules}
 use Rattle.expander.proofs.kinds_of.Goals as goal
 
 pub returns : goal.returns

@@ -4,7 +4,6 @@ use Rattle.language.proofs.Octets.{octets_of}
 use Rattle.machine.specs.Index.{no_heads}
 use Rattle.expander.proofs.Running.{ran}
 use Rattle.expander.proofs.Noting.{noted_all}
-use borrow.Author.Rules.{rules}
 use Rattle.expander.proofs.run_to_end.Goals as goal
 
 pub returns : goal.returns

@@ -1,13 +1,8 @@
 -- From `due` on no byte has the kind.
-use Prim.Native.Nat.{ℕ, suc, ◌-◌, ◌≤◌}
-use mathlib.Core.Path.{◌≡◌, refl, sym, ap, ◌∙◌}
-use native.Mathlib.Omega.{arith}
-use lib.ListN.{get_or}
-use borrow.Author.Tests.{eq-eqb, ne_eqb}
+use Prim.Native.Nat.{◌≤◌}
+use mathlib.Core.Path.{◌≡◌}
 use Rattle.language.specs.Refusals.{has_kind}
 use Rattle.keys.specs.Scripts.{last_below, byte_of}
-use Rattle.keys.proofs.Writing.{last_here, last_lower}
-use borrow.Author.Rules.{rules}
 use Rattle.keys.proofs.byte_of.Given as goal
 
 abbrev pub invariant-loop-due : goal.invariant-loop-due

@@ -2,7 +2,6 @@
 use native.Mathlib.Omega.{arith}
 use borrow.Author.Tests.{ne_eqb}
 use Rattle.keys.proofs.Matching.{depth_quote, depth_unquote, depth_other}
-use borrow.Author.Rules.{rules}
 use Rattle.keys.proofs.depth_by.Goals as goal
 
 pub returns-then-kind-eq-QUOTE : goal.returns-then-kind-eq-QUOTE

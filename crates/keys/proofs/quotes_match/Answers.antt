@@ -1,12 +1,8 @@
 -- The first `done` bytes lead to `depth`.
-use Prim.Native.Nat.{◌-◌}
 use mathlib.Core.Path.{sym, ap, subst}
 use native.Mathlib.Omega.{arith}
-use lib.ListN.{length}
 use Rattle.language.specs.Signs.{sign_of_kind}
 use Rattle.keys.proofs.Matching.{Matching, matching_start, matching_step, matching_lost, matching_end}
-use borrow.Author.Rules.{rules}
-use Rattle.keys.proofs.depth_by.Reads as depth-by-reads
 use Rattle.keys.proofs.quotes_match.Goals as goal
 use Rattle.keys.proofs.quotes_match.Goals.{then-kind-eq-UNQUOTE+else-depth-eq0, else-kind-eq-UNQUOTE}
 
@@ -26,11 +22,13 @@ returns-then-depth-eq0 c =
 
 pub depth_by-depth-requires : goal.depth_by-depth-requires
 depth_by-depth-requires c =
-    let l = c.loop-done in
-    (omega (arith, l.invariant.below, l.invariant.inside), λ u. elim c.if-kind-eq-UNQUOTE.branch [
-      then-kind-eq-UNQUOTE+else-depth-eq0 w ↦ let some_open = w.if-depth-eq0.false in omega arith
-    | else-kind-eq-UNQUOTE w ↦ absurd (w.if-kind-eq-UNQUOTE.false u)
-    ])
+    let l = c.loop-done in (
+      omega (arith, l.invariant.below, l.invariant.inside),
+      λ u. elim c.if-kind-eq-UNQUOTE.branch [
+        | then-kind-eq-UNQUOTE+else-depth-eq0 w ↦ let some_open = w.if-depth-eq0.false in omega arith
+        | else-kind-eq-UNQUOTE w ↦ absurd (w.if-kind-eq-UNQUOTE.false u)
+      ],
+    )
 
 pub loop-done-preserved : goal.loop-done-preserved
 loop-done-preserved c = matching_step c.loop-done.invariant (omega arith) c.depth_by-depth.ensures

@@ -5,7 +5,6 @@ use Rattle.language.specs.Refusals.{refusal_in}
 use Rattle.language.proofs.Octets.{octets_of}
 use Rattle.keys.specs.Scripts.{asked}
 use Rattle.keys.proofs.Answers.{delivers, answers_refused, answers_script, taken}
-use borrow.Author.Rules.{rules}
 use Rattle.keys.proofs.script_for.Goals as goal
 
 pub returns-in-Refused : goal.returns-in-Refused

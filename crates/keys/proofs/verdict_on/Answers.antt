@@ -4,7 +4,6 @@ use Rattle.language.specs.Refusals.{refusal_in}
 use Rattle.language.proofs.Accepted.{accepted_exactly}
 use Rattle.keys.specs.Scripts.{asked}
 use Rattle.keys.proofs.Answers.{refused_large, refused_signs, refused_own}
-use borrow.Author.Rules.{rules}
 use Rattle.keys.proofs.verdict_on.Goals as goal
 
 pub returns-then-too_long : goal.returns-then-too_long

@@ -3,7 +3,6 @@ use mathlib.Core.Path.{sym, ◌∙◌}
 use borrow.Author.Tests.{not-true, not-false}
 use Rattle.keys.specs.Scripts.{asked}
 use Rattle.keys.proofs.Answers.{refused_unmatched, refused_short, refused_not}
-use borrow.Author.Rules.{rules}
 use Rattle.keys.proofs.verdict_on_script.Goals as goal
 
 pub returns-then-not-quotes_match : goal.returns-then-not-quotes_match

@@ -1,6 +1,5 @@
 -- The wanted bytes behind the place of the first quote, then the two quotes.
 use Rattle.keys.proofs.Writing.{written-script}
-use borrow.Author.Rules.{rules}
 use Rattle.keys.proofs.write_script.Goals as goal
 
 pub returns : goal.returns

@@ -1,12 +1,8 @@
 -- Between two scans what is due leads where all leads. The measure is what is due.
 use Prim.Native.Nat.{◌-◌}
-use mathlib.Core.Path.{refl}
-use native.Mathlib.Omega.{arith}
 use lib.ListN.{length}
-use borrow.Author.Rules.{rules}
 use Rattle.language.specs.Expansion.{lent}
-use Rattle.machine.proofs.Leaves.{not_on}
-use Rattle.machine.proofs.Advancing.{Going, begins, ready_of, once_more, again, ends, done}
+use Rattle.machine.proofs.Advancing.{Going}
 use Rattle.machine.proofs.advance.Given as goal
 
 abbrev pub invariant-loop-run : goal.invariant-loop-run

@@ -1,15 +1,12 @@
 -- Between two turns what is due leads where all leads, and the numbers are those of what was written. The measure is what is due.
 use Prim.Native.Nat.{◌+◌, ◌-◌}
-use mathlib.Core.Path.{◌≡◌, refl}
-use mathlib.Core.Bool.{true}
+use mathlib.Core.Path.{refl}
 use native.Mathlib.Omega.{arith}
-use lib.ListN.{length}
-use borrow.Author.Rules.{rules}
 use Rattle.language.specs.Expansion.{lent}
-use Rattle.language.specs.Origins.{numbers, too_short}
+use Rattle.language.specs.Origins.{numbers}
 use Rattle.machine.proofs.Leaves.{not_on}
-use Rattle.machine.proofs.Advancing.{Going, begins, several_ready, more, over, done}
-use Rattle.machine.proofs.Noting.{Notable, notable, at_once_few, noted_on, noted_over, kept_on, noted_done}
+use Rattle.machine.proofs.Advancing.{begins, several_ready, more, over, done}
+use Rattle.machine.proofs.Noting.{notable, at_once_few, noted_on, noted_over, kept_on, noted_done}
 use Rattle.machine.proofs.advance_noting.Goals as goal
 
 pub loop-run-init : goal.loop-run-init

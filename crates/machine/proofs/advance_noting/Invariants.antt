@@ -1,15 +1,12 @@
 -- Between two turns what is due leads where all leads, and the numbers are those of what was written. The measure is what is due.
-use Prim.Native.Nat.{◌+◌, ◌-◌}
-use mathlib.Core.Path.{◌≡◌, refl}
+use Prim.Native.Nat.{◌-◌}
+use mathlib.Core.Path.{◌≡◌}
 use mathlib.Core.Bool.{true}
-use native.Mathlib.Omega.{arith}
 use lib.ListN.{length}
-use borrow.Author.Rules.{rules}
 use Rattle.language.specs.Expansion.{lent}
 use Rattle.language.specs.Origins.{numbers, too_short}
-use Rattle.machine.proofs.Leaves.{not_on}
-use Rattle.machine.proofs.Advancing.{Going, begins, several_ready, more, over, done}
-use Rattle.machine.proofs.Noting.{Notable, notable, at_once_few, noted_on, noted_over, kept_on, noted_done}
+use Rattle.machine.proofs.Advancing.{Going}
+use Rattle.machine.proofs.Noting.{Notable}
 use Rattle.machine.proofs.advance_noting.Given as goal
 
 abbrev pub invariant-loop-run : goal.invariant-loop-run

@@ -1,5 +1,4 @@
 -- The second test is asked only where the first passes.
-use borrow.Author.Rules.{rules}
 use Rattle.memory.proofs.both_lie.Goals as goal
 
 pub returns-then-lies_within : goal.returns-then-lies_within

@@ -1,6 +1,5 @@
 -- As many zeros as there are cells take the place of all of them.
 use mathlib.Core.Path.{◌∙◌}
-use borrow.Author.Rules.{rules}
 use lib.ListN.{length}
 use Rattle.memory.specs.Block.{repeated}
 use Rattle.memory.proofs.Blocks.{copied_whole, length-repeated}

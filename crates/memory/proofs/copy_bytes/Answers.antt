@@ -1,10 +1,8 @@
 -- A block outside its slice leaves the output as it is; otherwise each turn copies one byte more.
-use Prim.Native.Nat.{◌-◌}
 use native.Mathlib.Omega.{arith}
 use native.Mathlib.Nat.{zero-add}
-use borrow.Author.Rules.{rules}
 use lib.ListN.{length}
-use Rattle.memory.proofs.Blocks.{refused, both_in, Copying, copying_start, copying_step, copying_end}
+use Rattle.memory.proofs.Blocks.{refused, both_in, copying_start, copying_step, copying_end}
 use Rattle.memory.proofs.copy_bytes.Goals as goal
 
 pub returns-then-not-both_lie : goal.returns-then-not-both_lie

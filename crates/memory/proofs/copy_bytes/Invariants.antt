@@ -1,10 +1,6 @@
 -- A block outside its slice leaves the output as it is; otherwise each turn copies one byte more.
 use Prim.Native.Nat.{◌-◌}
-use native.Mathlib.Omega.{arith}
-use native.Mathlib.Nat.{zero-add}
-use borrow.Author.Rules.{rules}
-use lib.ListN.{length}
-use Rattle.memory.proofs.Blocks.{refused, both_in, Copying, copying_start, copying_step, copying_end}
+use Rattle.memory.proofs.Blocks.{Copying}
 use Rattle.memory.proofs.copy_bytes.Given as goal
 
 abbrev pub invariant-loop-done : goal.invariant-loop-done

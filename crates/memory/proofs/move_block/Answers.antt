@@ -1,6 +1,5 @@
 -- A place outside the cells leaves them as they are. A move down is made from the first cell on, a move up from the last.
 use native.Mathlib.Omega.{arith}
-use borrow.Author.Rules.{rules}
 use lib.ListN.{length}
 use Rattle.memory.proofs.Blocks.{refused, both_in}
 use Rattle.memory.proofs.move_block.Goals as goal

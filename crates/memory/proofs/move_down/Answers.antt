@@ -1,9 +1,7 @@
 -- After `done` turns the first `done` cells of the block are placed. The next one lies at or past what has been written, so it is
 -- still the one that stood there at the start.
-use Prim.Native.Nat.{◌-◌}
 use native.Mathlib.Omega.{arith}
-use borrow.Author.Rules.{rules}
-use Rattle.memory.proofs.Blocks.{Copying, copying_start, copying_step, copying_end, copying_ahead}
+use Rattle.memory.proofs.Blocks.{copying_start, copying_step, copying_end, copying_ahead}
 use Rattle.memory.proofs.move_down.Goals as goal
 
 pub loop-done-init : goal.loop-done-init

@@ -1,11 +1,8 @@
 -- With `due` turns to go all but the first `due` cells of the block are placed. The last of those lies below what has been
 -- written, so it is still the one that stood there at the start.
-use Prim.Native.Nat.{◌-◌, ◌≤◌}
-use mathlib.Core.Path.{sym, ◌∙◌}
-use native.Mathlib.Omega.{arith}
-use borrow.Author.Rules.{rules}
+use Prim.Native.Nat.{◌≤◌}
 use Rattle.memory.specs.Block.{block}
-use Rattle.memory.proofs.Blocks.{Falling, falling_start, falling_step, falling_end, falling_ahead, block-length, block_at, moved_in}
+use Rattle.memory.proofs.Blocks.{Falling}
 use Rattle.memory.proofs.move_up.Given as goal
 
 abbrev pub invariant-loop-due : goal.invariant-loop-due

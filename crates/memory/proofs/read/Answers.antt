@@ -1,6 +1,5 @@
 -- A position below the length is read from the list; past it the list has 0 by default.
 use mathlib.Core.Path.{sym}
-use borrow.Author.Rules.{rules}
 use lib.ListN.{get_or-eq_default}
 use Rattle.memory.proofs.read.Goals as goal
 

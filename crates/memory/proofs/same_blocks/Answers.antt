@@ -1,11 +1,9 @@
 -- The blocks lie within the cells, and agree up to `done`: so they are not the same where the next cells differ,
 -- and are the same once `done` is the count.
-use Prim.Native.Nat.{◌-◌}
 use mathlib.Core.Path.{sym, ◌∙◌}
 use native.Mathlib.Omega.{arith}
-use borrow.Author.Rules.{rules}
 use lib.ListN.{length}
-use Rattle.memory.proofs.Blocks.{refused, both_in, same_blocks_in, Agreeing, agreeing_start, agreeing_step, agreeing_not, agreeing_end}
+use Rattle.memory.proofs.Blocks.{refused, both_in, same_blocks_in, agreeing_start, agreeing_step, agreeing_not, agreeing_end}
 use Rattle.memory.proofs.same_blocks.Goals as goal
 
 pub returns-then-not-both_lie : goal.returns-then-not-both_lie

@@ -1,6 +1,5 @@
 -- A position below the length is stored to; past it a store changes nothing.
 use mathlib.Core.Path.{sym}
-use borrow.Author.Rules.{rules}
 use lib.Seq.{set_out}
 use Rattle.memory.proofs.write_byte.Goals as goal
 

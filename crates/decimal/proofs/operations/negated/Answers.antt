@@ -1,6 +1,5 @@
 -- Only the smallest number has a negation that is out of range.
 use mathlib.Core.Path.{ap, ◌∙◌}
-use borrow.Author.Rules.{rules}
 use Rattle.decimal.specs.Answers.{answer_of}
 use Rattle.decimal.proofs.Machine.{negated_fits}
 use Rattle.decimal.proofs.Results.{smallest_negated, negated_number}

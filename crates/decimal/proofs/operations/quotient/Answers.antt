@@ -1,6 +1,5 @@
 -- By zero it is refused, by -1 it is the negation, and by any other divisor the machine's quotient fits.
 use mathlib.Core.Path.{ap, ◌∙◌}
-use borrow.Author.Rules.{rules}
 use Rattle.decimal.specs.declared.operations.Operation.TheVariants.{Quotient}
 use Rattle.decimal.specs.Answers.{answer_of}
 use Rattle.decimal.proofs.Results.{by_zero, quotient_by_minus_one, tested, quotient_number}

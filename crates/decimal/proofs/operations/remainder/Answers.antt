@@ -1,6 +1,5 @@
 -- By zero it is refused, by -1 it is zero, and by any other divisor the machine's remainder is asked what it can do.
 use mathlib.Core.Path.{ap, ◌∙◌}
-use borrow.Author.Rules.{rules}
 use Rattle.decimal.specs.declared.operations.Operation.TheVariants.{Remainder}
 use Rattle.decimal.specs.Answers.{answer_of}
 use Rattle.decimal.proofs.Results.{by_zero, remainder_by_minus_one, tested, remainder_number}

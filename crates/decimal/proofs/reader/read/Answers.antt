@@ -1,11 +1,9 @@
 -- The reader has read as many bytes of the text as the loop has passed, and at the end all of them. The measure is what is left.
-use Prim.Native.Nat.{ℕ, ◌≤◌, ◌-◌}
+use Prim.Native.Nat.{ℕ}
 use native.Mathlib.Omega.{arith}
 use native.Mathlib.Numerals.{add-one}
 use borrow.Author.Rules.{rules}
-use lib.ListN.{length, take}
 use lib.Seq.{take_all, take-suc}
-use Rattle.decimal.specs.Reading.{Took}
 use Rattle.decimal.proofs.reader.read.Goals as goal
 
 pub loop-at-init : goal.loop-at-init

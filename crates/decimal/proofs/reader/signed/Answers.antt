@@ -2,7 +2,6 @@
 use Prim.Native.Nat.{◌<◌}
 use mathlib.Core.Path.{sym, ap}
 use native.Mathlib.Omega.{arith}
-use borrow.Author.Rules.{rules}
 use lib.IntN.{pos, neg_ℤ}
 use Rattle.decimal.specs.Arithmetic.{as_result}
 use Rattle.decimal.proofs.Ranges.{in_range_lem, mag_negated}

@@ -1,5 +1,4 @@
 -- The counts are those of the run, and the outcome that of its answer.
-use borrow.Author.Rules.{rules}
 use Rattle.expander.proofs.Report.of.Goals as goal
 
 pub returns : goal.returns

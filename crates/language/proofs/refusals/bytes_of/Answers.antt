@@ -1,11 +1,8 @@
 -- `count` is that of the bytes below `byte`.
-use Prim.Native.Nat.{◌-◌}
 use native.Mathlib.Omega.{arith}
 use lib.ListN.{get_or}
 use borrow.Author.Tests.{eq-eqb, ne_eqb}
-use Rattle.language.specs.Refusals.{has_kind}
-use Rattle.language.proofs.Accepted.{Counted, counted_start, counted_one, counted_none, counted_end}
-use borrow.Author.Rules.{rules}
+use Rattle.language.proofs.Accepted.{counted_start, counted_one, counted_none, counted_end}
 use Rattle.language.proofs.refusals.bytes_of.Goals as goal
 use Rattle.language.proofs.refusals.bytes_of.Goals.{then-signs-byte, else-signs-byte}
 
@@ -18,8 +15,8 @@ loop-byte-preserved c =
     let l = c.loop-byte in
     let kind = get_or a.signs.now l.byte 0 in
     elim c.if-signs-byte.branch [
-      then-signs-byte w ↦ rw w.count-is (counted_one l.invariant (omega arith) (eq-eqb kind a.kind w.if-signs-byte.true))
-    | else-signs-byte w ↦ rw w.count-is (counted_none l.invariant (omega arith) (ne_eqb kind a.kind w.if-signs-byte.false))
+      | then-signs-byte w ↦ rw w.count-is (counted_one l.invariant (omega arith) (eq-eqb kind a.kind w.if-signs-byte.true))
+      | else-signs-byte w ↦ rw w.count-is (counted_none l.invariant (omega arith) (ne_eqb kind a.kind w.if-signs-byte.false))
     ]
 
 pub returns : goal.returns

@@ -1,12 +1,7 @@
 -- `count` is that of the bytes below `byte`.
 use Prim.Native.Nat.{◌-◌}
-use mathlib.Core.Logic.{⊎_elim}
-use native.Mathlib.Omega.{arith}
-use lib.ListN.{get_or}
-use borrow.Author.Tests.{eq-eqb, ne_eqb}
 use Rattle.language.specs.Refusals.{has_kind}
-use Rattle.language.proofs.Accepted.{Counted, counted_start, counted_one, counted_none, counted_end}
-use borrow.Author.Rules.{rules}
+use Rattle.language.proofs.Accepted.{Counted}
 use Rattle.language.proofs.refusals.bytes_of.Given as goal
 
 abbrev pub invariant-loop-byte : goal.invariant-loop-byte

@@ -4,7 +4,6 @@ use mathlib.Core.Bool.{and-false, and-true}
 use lib.ListN.{get_or}
 use borrow.Author.Tests.{eq-eqb, ne_eqb}
 use Rattle.language.specs.Refusals.{is_reserved}
-use borrow.Author.Rules.{rules}
 use Rattle.language.proofs.refusals.is_reserved_sign.Goals as goal
 
 pub returns-then-signs-byte-eq0 : goal.returns-then-signs-byte-eq0

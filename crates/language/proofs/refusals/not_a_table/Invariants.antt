@@ -1,12 +1,9 @@
 -- Below `byte` no entry is above 6.
 use Prim.Native.Nat.{◌-◌}
-use mathlib.Core.Path.{◌≡◌, sym}
-use native.Mathlib.Omega.{arith}
-use lib.ListN.{length, get_or}
-use borrow.Author.Tests.{lt-ltb, le-ltb, eq-eqb, ne_eqb}
+use mathlib.Core.Path.{◌≡◌}
+use lib.ListN.{length}
 use Rattle.language.specs.Refusals.{is_above}
-use Rattle.language.proofs.Accepted.{some_found, Searched, searched_start, searched_step, searched_end}
-use borrow.Author.Rules.{rules}
+use Rattle.language.proofs.Accepted.{Searched}
 use Rattle.language.proofs.refusals.not_a_table.Given as goal
 
 abbrev pub invariant-loop-byte : goal.invariant-loop-byte

@@ -1,10 +1,7 @@
 -- Below `byte` no reserved byte is a sign.
 use Prim.Native.Nat.{◌-◌}
-use mathlib.Core.Path.{sym, ◌∙◌}
-use native.Mathlib.Omega.{arith}
 use Rattle.language.specs.Refusals.{is_reserved_sign}
-use Rattle.language.proofs.Accepted.{some_found, Searched, searched_start, searched_step, searched_end}
-use borrow.Author.Rules.{rules}
+use Rattle.language.proofs.Accepted.{Searched}
 use Rattle.language.proofs.refusals.reserved_sign.Given as goal
 
 abbrev pub invariant-loop-byte : goal.invariant-loop-byte

@@ -1,8 +1,7 @@
 -- What was summed, and the sum of what is left of the name, are the sum of the name. The measure is what is left of it.
-use Prim.Native.Nat.{◌+◌, ◌-◌, ◌*◌, ◌≤◌}
+use Prim.Native.Nat.{◌+◌, ◌-◌}
 use mathlib.Core.Path.{◌≡◌}
 use native.Mathlib.Omega.{arith}
-use borrow.Author.Rules.{rules}
 use Rattle.memory.specs.Block.{block}
 use Rattle.language.specs.Groups as G
 use Rattle.machine.proofs.Turns.{sum_turn, sum_done, sum_past}

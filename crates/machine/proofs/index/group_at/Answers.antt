@@ -1,5 +1,4 @@
 -- The group of the name that stands behind the head.
-use borrow.Author.Rules.{rules}
 use Rattle.machine.proofs.index.group_at.Goals as goal
 
 pub returns : goal.returns

@@ -1,5 +1,4 @@
 -- The definition is linked to the head of its group, and then is that head.
-use borrow.Author.Rules.{rules}
 use Rattle.machine.proofs.index.insert.Goals as goal
 
 pub returns : goal.returns

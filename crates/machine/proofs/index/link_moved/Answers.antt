@@ -1,5 +1,4 @@
 -- A link to what moved moves with it, and any other is the head of the group.
-use borrow.Author.Rules.{rules}
 use borrow.Author.Tests.{lt-ltb, le-ltb}
 use Rattle.machine.proofs.index.link_moved.Goals as goal
 

@@ -1,13 +1,8 @@
 -- With the turns that are left, the walk from the present place leaves the cells that the whole walk leaves.
 -- The measure is the turns.
-use Prim.Native.Nat.{◌≤◌}
-use mathlib.Core.Path.{◌≡◌, refl}
-use native.Mathlib.Omega.{arith}
+use mathlib.Core.Path.{◌≡◌}
 use lib.ListN.{length}
-use borrow.Author.Rules.{rules}
-use borrow.Author.Tests.{le-leb, lt-leb}
 use Rattle.machine.specs.Walks.{relinked_from, relinked}
-use Rattle.machine.proofs.Turns.{relinked_done, relinked_turn}
 use Rattle.machine.proofs.index.relink.Given as goal
 
 abbrev pub invariant-loop-turns : goal.invariant-loop-turns

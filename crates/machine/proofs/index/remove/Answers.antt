@@ -2,9 +2,7 @@
 -- The measure is the turns.
 use mathlib.Core.Path.{◌≡◌, refl}
 use native.Mathlib.Omega.{arith}
-use borrow.Author.Rules.{rules}
 use borrow.Author.Tests.{le-leb, lt-leb}
-use Rattle.machine.specs.Walks.{removed_from, removed}
 use Rattle.machine.proofs.Turns.{removed_done, removed_turn}
 use Rattle.machine.proofs.index.remove.Goals as goal
 

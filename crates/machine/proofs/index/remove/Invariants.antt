@@ -1,11 +1,7 @@
 -- With the turns that are left, the walk from the present place leaves the heads that the whole walk leaves.
 -- The measure is the turns.
-use mathlib.Core.Path.{◌≡◌, refl}
-use native.Mathlib.Omega.{arith}
-use borrow.Author.Rules.{rules}
-use borrow.Author.Tests.{le-leb, lt-leb}
+use mathlib.Core.Path.{◌≡◌}
 use Rattle.machine.specs.Walks.{removed_from, removed}
-use Rattle.machine.proofs.Turns.{removed_done, removed_turn}
 use Rattle.machine.proofs.index.remove.Given as goal
 
 abbrev pub invariant-loop-turns : goal.invariant-loop-turns

@@ -1,5 +1,4 @@
 -- The link of the definition is the head of its group.
-use borrow.Author.Rules.{rules}
 use Rattle.machine.proofs.index.remove_one.Goals as goal
 
 pub returns : goal.returns

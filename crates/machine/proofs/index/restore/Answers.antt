@@ -2,9 +2,7 @@
 -- The measure is the turns.
 use mathlib.Core.Path.{◌≡◌, refl}
 use native.Mathlib.Omega.{arith}
-use borrow.Author.Rules.{rules}
 use borrow.Author.Tests.{le-leb, lt-leb}
-use Rattle.machine.specs.Walks.{restored_from, restored}
 use Rattle.machine.proofs.Turns.{restored_done, restored_turn}
 use Rattle.machine.proofs.index.restore.Goals as goal
 

@@ -1,6 +1,5 @@
 -- The head of the group stays where it stands before `to`.
 use borrow.Author.Tests.{lt-ltb, le-ltb}
-use borrow.Author.Rules.{rules}
 use Rattle.machine.proofs.index.restore_one.Goals as goal
 
 pub returns-then-head-to : goal.returns-then-head-to

@@ -1,5 +1,4 @@
 -- The first cell says it.
-use borrow.Author.Rules.{rules}
 use Rattle.machine.proofs.layout.is_locked.Goals as goal
 
 pub returns : goal.returns

@@ -1,5 +1,4 @@
 -- The four cells of the head are written one after the other.
-use borrow.Author.Rules.{rules}
 use Rattle.machine.proofs.layout.write_head.Goals as goal
 
 pub returns : goal.returns

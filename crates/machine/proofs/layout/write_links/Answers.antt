@@ -1,5 +1,4 @@
 -- The two links are written one after the other.
-use borrow.Author.Rules.{rules}
 use Rattle.machine.proofs.layout.write_links.Goals as goal
 
 pub returns : goal.returns

@@ -1,12 +1,8 @@
 -- With the arguments that are due, the walk from the present position answers what the whole walk answers.
 -- The measure is what is due.
 use Prim.Native.Nat.{◌+◌, ◌*◌, ◌≤◌}
-use mathlib.Core.Path.{◌≡◌, refl}
-use native.Mathlib.Omega.{arith}
-use borrow.Author.Tests.{le-leb, lt-leb}
-use borrow.Author.Rules.{rules}
+use mathlib.Core.Path.{◌≡◌}
 use Rattle.machine.specs.Walks.{argument}
-use Rattle.machine.proofs.Turns.{argument_done, argument_turn}
 use Rattle.machine.proofs.lookup.argument.Given as goal
 
 abbrev pub invariant-loop-due : goal.invariant-loop-due

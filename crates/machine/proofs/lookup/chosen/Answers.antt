@@ -3,8 +3,6 @@
 use mathlib.Core.Path.{◌≡◌, refl}
 use native.Mathlib.Omega.{arith}
 use borrow.Author.Tests.{le-leb, lt-leb, eq-eqb, ne_eqb}
-use borrow.Author.Rules.{rules}
-use Rattle.machine.specs.Walks.{chosen_from, chosen}
 use Rattle.machine.proofs.Turns.{told, chosen_done, chosen_turn}
 use Rattle.machine.proofs.lookup.chosen.Goals as goal
 

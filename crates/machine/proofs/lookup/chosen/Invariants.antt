@@ -1,11 +1,7 @@
 -- With the turns that are left, the walk over the pairs behind the present argument answers what the whole walk answers.
 -- The measure is the turns.
-use mathlib.Core.Path.{◌≡◌, refl}
-use native.Mathlib.Omega.{arith}
-use borrow.Author.Tests.{le-leb, lt-leb, eq-eqb, ne_eqb}
-use borrow.Author.Rules.{rules}
+use mathlib.Core.Path.{◌≡◌}
 use Rattle.machine.specs.Walks.{chosen_from, chosen}
-use Rattle.machine.proofs.Turns.{told, chosen_done, chosen_turn}
 use Rattle.machine.proofs.lookup.chosen.Given as goal
 
 abbrev pub invariant-loop-turns : goal.invariant-loop-turns

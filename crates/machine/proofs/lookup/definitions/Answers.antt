@@ -1,12 +1,8 @@
 -- The definitions that were counted and those that the turns left would count are those of the whole walk.
 -- The measure is the turns.
-use Prim.Native.Nat.{◌+◌, ◌≤◌}
 use mathlib.Core.Path.{◌≡◌}
 use native.Mathlib.Omega.{arith}
-use lib.ListN.{length}
 use borrow.Author.Tests.{le-leb, lt-leb}
-use borrow.Author.Rules.{rules}
-use Rattle.machine.specs.Walks.{definitions_from}
 use Rattle.machine.proofs.Turns.{definitions_done, definitions_turn}
 use Rattle.machine.proofs.lookup.definitions.Goals as goal
 

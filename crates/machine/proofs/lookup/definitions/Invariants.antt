@@ -2,12 +2,8 @@
 -- The measure is the turns.
 use Prim.Native.Nat.{◌+◌, ◌≤◌}
 use mathlib.Core.Path.{◌≡◌}
-use native.Mathlib.Omega.{arith}
 use lib.ListN.{length}
-use borrow.Author.Tests.{le-leb, lt-leb}
-use borrow.Author.Rules.{rules}
 use Rattle.machine.specs.Walks.{definitions_from}
-use Rattle.machine.proofs.Turns.{definitions_done, definitions_turn}
 use Rattle.machine.proofs.lookup.definitions.Given as goal
 
 abbrev pub invariant-loop-turns : goal.invariant-loop-turns

@@ -1,5 +1,4 @@
 -- A name of another length answers false, and otherwise the blocks decide.
-use borrow.Author.Rules.{rules}
 use borrow.Author.Tests.{eq-eqb, ne_eqb}
 use Rattle.machine.proofs.lookup.is_named.Goals as goal
 

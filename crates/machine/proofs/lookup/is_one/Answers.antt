@@ -1,5 +1,4 @@
 -- The length and the bytes decide.
-use borrow.Author.Rules.{rules}
 use Rattle.machine.proofs.lookup.is_one.Goals as goal
 
 pub returns : goal.returns

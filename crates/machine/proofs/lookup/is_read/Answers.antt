@@ -1,11 +1,9 @@
 -- With the turns that are left, the walk from the present list answers what the whole walk answers.
 -- The measure is the turns.
-use Prim.Native.Nat.{◌≤◌}
 use mathlib.Core.Path.{◌≡◌, refl}
 use native.Mathlib.Omega.{arith}
 use borrow.Author.Tests.{eq-eqb, ne_eqb}
 use borrow.Author.Rules.{rules}
-use Rattle.machine.specs.Walks.{is_read_from, is_read}
 use Rattle.machine.proofs.Turns.{is_read_done, is_read_turn}
 use Rattle.machine.proofs.lookup.is_read.Goals as goal
 

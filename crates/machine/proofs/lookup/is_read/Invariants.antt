@@ -1,12 +1,8 @@
 -- With the turns that are left, the walk from the present list answers what the whole walk answers.
 -- The measure is the turns.
 use Prim.Native.Nat.{◌≤◌}
-use mathlib.Core.Path.{◌≡◌, refl}
-use native.Mathlib.Omega.{arith}
-use borrow.Author.Tests.{eq-eqb, ne_eqb}
-use borrow.Author.Rules.{rules}
+use mathlib.Core.Path.{◌≡◌}
 use Rattle.machine.specs.Walks.{is_read_from, is_read}
-use Rattle.machine.proofs.Turns.{is_read_done, is_read_turn}
 use Rattle.machine.proofs.lookup.is_read.Given as goal
 
 abbrev pub invariant-loop-turns : goal.invariant-loop-turns

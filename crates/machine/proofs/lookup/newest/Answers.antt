@@ -2,9 +2,7 @@
 -- The measure is the turns.
 use mathlib.Core.Path.{◌≡◌}
 use native.Mathlib.Omega.{arith}
-use borrow.Author.Rules.{rules}
 use borrow.Author.Tests.{le-leb, lt-leb}
-use Rattle.machine.specs.Walks.{newest_from, newest}
 use Rattle.machine.proofs.Turns.{newest_done, newest_turn}
 use Rattle.machine.proofs.lookup.newest.Goals as goal
 

@@ -1,11 +1,7 @@
 -- With the turns that are left, the walk from the present place answers what the whole walk answers.
 -- The measure is the turns.
 use mathlib.Core.Path.{◌≡◌}
-use native.Mathlib.Omega.{arith}
-use borrow.Author.Rules.{rules}
-use borrow.Author.Tests.{le-leb, lt-leb}
 use Rattle.machine.specs.Walks.{newest_from, newest}
-use Rattle.machine.proofs.Turns.{newest_done, newest_turn}
 use Rattle.machine.proofs.lookup.newest.Given as goal
 
 abbrev pub invariant-loop-turns : goal.invariant-loop-turns

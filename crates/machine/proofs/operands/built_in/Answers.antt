@@ -6,7 +6,6 @@ use mathlib.Core.List.{List, []}
 use lib.Dec.{eqb}
 use lib.ListN.{get_or}
 use borrow.Author.Tests.{ne_eqb}
-use borrow.Author.Rules.{rules}
 use Rattle.memory.specs.Block.{block}
 use Rattle.language.specs.BuiltIns.{built_ins}
 use Rattle.language.specs.Groups.{sum, group, of_group}

@@ -1,5 +1,4 @@
 -- The operation is carried out on the two operands.
-use borrow.Author.Rules.{rules}
 use Rattle.machine.proofs.operands.calculate.Goals as goal
 
 pub returns : goal.returns

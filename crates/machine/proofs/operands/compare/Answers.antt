@@ -1,5 +1,4 @@
 -- The blocks of the two arguments, length cells included, decide.
-use borrow.Author.Rules.{rules}
 use Rattle.machine.proofs.Turns.{told}
 use Rattle.machine.proofs.operands.compare.Goals as goal
 

@@ -1,5 +1,4 @@
 -- The name is the built-in's or not.
-use borrow.Author.Rules.{rules}
 use Rattle.machine.specs.Walks.{named_among}
 use Rattle.machine.proofs.Turns.{told}
 use Rattle.machine.proofs.operands.known.Goals as goal

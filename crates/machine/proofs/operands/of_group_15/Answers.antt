@@ -1,5 +1,4 @@
 -- The names of the group are tried in the order of the definition.
-use borrow.Author.Rules.{rules}
 use Rattle.language.specs.Groups.{sum, of_group}
 use Rattle.machine.specs.Walks.{named_among}
 use Rattle.machine.proofs.Turns.{told}

@@ -1,12 +1,10 @@
 -- The reader has taken the low bytes of the cells that were passed, and at the end those of the whole argument. The measure is what is left.
-use Prim.Native.Nat.{◌+◌, ◌-◌, ◌≤◌, ◌<◌}
+use Prim.Native.Nat.{◌+◌, ◌<◌}
 use mathlib.Core.Path.{◌≡◌}
 use native.Mathlib.Omega.{arith}
 use borrow.Author.Tests.{le-leb, lt-leb}
 use borrow.Author.Rules.{rules}
 use lib.ListN.{length}
-use Rattle.memory.specs.Block.{block, low_bytes}
-use Rattle.decimal.specs.Reading.{Took}
 use Rattle.machine.proofs.Turns.{low_turn}
 use Rattle.machine.proofs.operands.operand.Goals as goal
 

@@ -1,6 +1,5 @@
 -- The name decides.
 use mathlib.Core.Path.{sym, ◌∙◌}
-use borrow.Author.Rules.{rules}
 use Rattle.machine.proofs.origins.given_by_name.Goals as goal
 
 pub returns-then-same_bytes : goal.returns-then-same_bytes

@@ -1,6 +1,5 @@
 -- A quote that opens adds one, a quote that closes takes one away.
 use borrow.Author.Tests.{eq-eqb, ne_eqb}
-use borrow.Author.Rules.{rules}
 use Rattle.machine.proofs.scan.quotes_after.Goals as goal
 
 pub returns-then-kind-eq5 : goal.returns-then-kind-eq5

@@ -1,5 +1,4 @@
 -- The two walks that take out, the move, the walk that links and the one that puts back, one after the other.
-use borrow.Author.Rules.{rules}
 use Rattle.machine.proofs.signs.shift.Goals as goal
 
 pub returns : goal.returns

@@ -1,6 +1,5 @@
 -- The two tests are the range's two ends, and within it the cast to 32 bits keeps the number.
 use mathlib.Core.Path.{ap, ◌∙◌}
-use borrow.Author.Rules.{rules}
 use Rattle.decimal.specs.Answers.{answer_of}
 use Rattle.decimal.proofs.Results.{below_refused, above_refused, within_fits, within_number}
 use Rattle.decimal.proofs.operations.Answer.ranged.Goals as goal

@@ -1,5 +1,4 @@
 -- The text is that of `Decimal::new`.
-use borrow.Author.Rules.{rules}
 use Rattle.decimal.proofs.operations.Answer.refused.Goals as goal
 
 pub returns : goal.returns

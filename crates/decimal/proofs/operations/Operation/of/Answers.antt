@@ -1,6 +1,6 @@
 -- The refusals come in the order of the definition, and two numbers are handed on.
 use mathlib.Core.Path.{ap, ◌∙◌}
-use borrow.Author.Rules.{rules, sfits_of}
+use borrow.Author.Rules.{sfits_of}
 use Rattle.decimal.specs.Answers.{answer_of}
 use Rattle.decimal.proofs.Results.{passed}
 use Rattle.decimal.proofs.operations.Operation.of.Goals as goal

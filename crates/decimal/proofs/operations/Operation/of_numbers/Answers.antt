@@ -1,6 +1,5 @@
 -- A sum, a difference and a product fit 64 bits, so they are the exact ones; the other two have functions of their own.
 use mathlib.Core.Path.{ap, ◌∙◌}
-use borrow.Author.Rules.{rules}
 use Rattle.decimal.specs.declared.operations.Operation.TheVariants.{Sum, Difference, Product, Quotient, Remainder}
 use Rattle.decimal.specs.Answers.{answer_of}
 use Rattle.decimal.proofs.Machine.{cast_fits, wide_fits}

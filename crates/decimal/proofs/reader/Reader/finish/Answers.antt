@@ -1,5 +1,4 @@
 -- A number ends only among digits, and is then what its sign and size make.
-use borrow.Author.Rules.{rules}
 use Rattle.decimal.proofs.Reading.{took_found}
 use Rattle.decimal.proofs.reader.Reader.finish.Goals as goal
 

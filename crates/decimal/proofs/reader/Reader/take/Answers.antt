@@ -1,5 +1,4 @@
 -- What is taken goes by the stage, as in the definition.
-use borrow.Author.Rules.{rules}
 use Rattle.decimal.proofs.Reading.{took_more}
 use Rattle.decimal.proofs.reader.Reader.take.Goals as goal
 

@@ -1,5 +1,4 @@
 -- The two tests are those of a digit, and `grown` keeps the size.
-use borrow.Author.Rules.{rules}
 use Rattle.decimal.proofs.Digits.{below_digits, above_digits, is_digit_lem}
 use Rattle.decimal.proofs.reader.Reader.take_digit.Goals as goal
 

@@ -1,6 +1,5 @@
 -- The first byte is a sign, or else as any later one.
 use borrow.Author.Tests.{eq-eqb, ne_eqb}
-use borrow.Author.Rules.{rules}
 use Rattle.decimal.proofs.reader.Reader.take_first.Goals as goal
 
 pub returns-then-byte-eq43 : goal.returns-then-byte-eq43

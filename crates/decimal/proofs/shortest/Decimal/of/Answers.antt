@@ -2,7 +2,6 @@
 use mathlib.Core.Path.{ap, ◌∙◌}
 use mathlib.Core.List.{[], ◌∷◌}
 use native.Mathlib.Omega.{arith}
-use borrow.Author.Rules.{rules}
 use Rattle.decimal.specs.Answers.{decimal_of}
 use Rattle.decimal.proofs.Texts.{digits-room, minus_digits, plain-digits}
 use Rattle.decimal.proofs.shortest.Decimal.of.Goals as goal

@@ -1,7 +1,6 @@
 -- The digits of a number of 32 bits, of which there are at most ten.
 use mathlib.Core.List.{[]}
 use native.Mathlib.Omega.{arith}
-use borrow.Author.Rules.{rules}
 use Rattle.decimal.proofs.Texts.{digits-room}
 use Rattle.decimal.proofs.shortest.Decimal.of_count.Goals as goal
 

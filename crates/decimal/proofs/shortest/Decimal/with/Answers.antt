@@ -1,7 +1,6 @@
 -- The byte is stored right past the text, where the eleven bytes have room.
 use mathlib.Core.Path.{ap}
 use native.Mathlib.Omega.{arith}
-use borrow.Author.Rules.{rules}
 use Rattle.decimal.proofs.Texts.{decimal_more}
 use Rattle.decimal.proofs.shortest.Decimal.with.Goals as goal
 

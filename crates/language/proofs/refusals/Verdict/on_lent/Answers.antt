@@ -1,7 +1,6 @@
 -- The sizes first; where they are not too large the signs decide.
 use mathlib.Core.Path.{sym, ◌∙◌}
 use Rattle.language.specs.Refusals.{refused_by}
-use borrow.Author.Rules.{rules}
 use Rattle.language.proofs.refusals.Verdict.on_lent.Goals as goal
 
 pub returns-then-too_large : goal.returns-then-too_large

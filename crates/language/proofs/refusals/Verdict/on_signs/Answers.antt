@@ -2,7 +2,6 @@
 use mathlib.Core.Path.{sym, ◌∙◌}
 use Rattle.language.specs.Refusals.{refused_by}
 use Rattle.language.proofs.Accepted.{table_size}
-use borrow.Author.Rules.{rules}
 use Rattle.language.proofs.refusals.Verdict.on_signs.Goals as goal
 
 pub returns-then-not_a_table : goal.returns-then-not_a_table

@@ -1,6 +1,5 @@
 -- A call of the source being read is applied; else the byte is put, or refused.
 use mathlib.Core.Path.{ap}
-use borrow.Author.Rules.{rules}
 use borrow.Author.Tests.{eq-eqb, ne_eqb}
 use Rattle.machine.specs.Machine.{keeping}
 use Rattle.machine.proofs.run.Run.apply.Goals as goal

@@ -1,5 +1,4 @@
 -- A name that is no built-in's is refused, and another has its parameters taken.
-use borrow.Author.Rules.{rules}
 use Rattle.machine.proofs.run.Run.apply_built_in.Goals as goal
 
 pub returns-in-Known : goal.returns-in-Known

@@ -1,6 +1,5 @@
 -- The cell of the `;` is refused, or charged and the mark set in it.
 use native.Mathlib.Omega.{arith}
-use borrow.Author.Rules.{rules}
 use borrow.Author.Tests.{lt-ltb, le-ltb, le-leb, lt-leb}
 use Rattle.machine.proofs.run.Run.apply_call.Goals as goal
 

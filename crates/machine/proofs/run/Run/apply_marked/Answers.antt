@@ -1,6 +1,5 @@
 -- A name that no definition has is looked for among the built-ins.
 use mathlib.Core.Path.{ap}
-use borrow.Author.Rules.{rules}
 use borrow.Author.Tests.{eq-eqb, ne_eqb}
 use Rattle.machine.specs.Machine.{keeping}
 use Rattle.machine.proofs.run.Run.apply_marked.Goals as goal

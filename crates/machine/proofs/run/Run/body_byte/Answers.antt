@@ -1,6 +1,5 @@
 -- At the end of the body there is no byte, before it the byte is read behind the name.
 use borrow.Author.Tests.{le-leb, lt-leb}
-use borrow.Author.Rules.{rules}
 use Rattle.machine.proofs.run.Run.body_byte.Goals as goal
 
 pub returns-then-length-offset : goal.returns-then-length-offset

@@ -1,5 +1,4 @@
 -- What the cells of the list say is unpacked, and what went is taken off.
-use borrow.Author.Rules.{rules}
 use Rattle.machine.proofs.run.Run.body_ended.Goals as goal
 
 pub returns : goal.returns

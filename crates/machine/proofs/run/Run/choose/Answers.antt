@@ -1,6 +1,5 @@
 -- The argument that was chosen is given, or nothing.
 use borrow.Author.Tests.{eq-eqb, ne_eqb}
-use borrow.Author.Rules.{rules}
 use Rattle.machine.proofs.run.Run.choose.Goals as goal
 
 pub returns-then-second-eq-NOWHERE : goal.returns-then-second-eq-NOWHERE

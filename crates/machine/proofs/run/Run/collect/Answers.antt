@@ -1,6 +1,5 @@
 -- A byte for which the cells have no room is refused, and else collected.
 use borrow.Author.Tests.{le-leb, lt-leb}
-use borrow.Author.Rules.{rules}
 use Rattle.machine.proofs.run.Run.collect.Goals as goal
 
 pub returns-then-self-cells : goal.returns-then-self-cells

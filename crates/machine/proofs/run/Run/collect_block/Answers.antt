@@ -1,6 +1,5 @@
 -- What the cells have no room for is refused, and else moved behind the left stack.
 use borrow.Author.Tests.{lt-ltb, le-ltb}
-use borrow.Author.Rules.{rules}
 use Rattle.machine.proofs.run.Run.collect_block.Goals as goal
 
 pub returns-then-cells-self : goal.returns-then-cells-self

@@ -1,5 +1,4 @@
 -- What is charged is collected too.
-use borrow.Author.Rules.{rules}
 use Rattle.machine.proofs.run.Run.collected.Goals as goal
 
 pub returns : goal.returns

@@ -2,7 +2,6 @@
 use mathlib.Core.Path.{ap}
 use mathlib.Core.List.{[]}
 use native.Mathlib.Omega.{arith}
-use borrow.Author.Rules.{rules}
 use Rattle.language.specs.Expansion.{lent}
 use Rattle.machine.specs.Machine.{After}
 use Rattle.machine.proofs.Leaves.{ended, nameless, not_defined, defines, roomy, release_right}

@@ -1,7 +1,6 @@
 -- The value, the name and the head are put in place one after the other, and the definition comes into the index.
 use borrow.Author.Tests.{lt-ltb, le-ltb, le-leb, lt-leb}
 use native.Mathlib.Omega.{arith}
-use borrow.Author.Rules.{rules}
 use Rattle.machine.proofs.run.Run.define_in.Goals as goal
 
 pub returns-then-right-size : goal.returns-then-right-size

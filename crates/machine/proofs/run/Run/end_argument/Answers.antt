@@ -1,6 +1,5 @@
 -- The length goes into its cell, which stands before the last one collected.
 use borrow.Author.Tests.{lt-ltb, le-ltb}
-use borrow.Author.Rules.{rules}
 use Rattle.machine.proofs.run.Run.end_argument.Goals as goal
 
 pub returns-then-hand-left : goal.returns-then-hand-left

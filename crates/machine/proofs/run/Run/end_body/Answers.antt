@@ -1,5 +1,4 @@
 -- A call of the body's own is refused, else what the list's cells say is handed on.
-use borrow.Author.Rules.{rules}
 use Rattle.language.specs.Expansion.{lent}
 use Rattle.machine.proofs.Leaves.{hands_on}
 use Rattle.machine.proofs.run.Run.end_body.Goals as goal

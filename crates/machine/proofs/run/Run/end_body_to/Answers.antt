@@ -1,6 +1,5 @@
 -- Each test that fails leaves the next one to decide, and the shift is made where none holds.
 use mathlib.Core.Path.{ap}
-use borrow.Author.Rules.{rules}
 use borrow.Author.Tests.{lt-ltb, le-ltb}
 use Rattle.machine.specs.Machine.{Shifted}
 use Rattle.machine.proofs.run.Run.end_body_to.Goals as goal

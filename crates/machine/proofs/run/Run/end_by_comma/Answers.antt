@@ -1,6 +1,5 @@
 -- The argument in hand is ended and the next one's cell charged, unless none is left.
 use borrow.Author.Tests.{le-leb, lt-leb}
-use borrow.Author.Rules.{rules}
 use Rattle.machine.proofs.run.Run.end_by_comma.Goals as goal
 
 pub returns-then-self-cells : goal.returns-then-self-cells

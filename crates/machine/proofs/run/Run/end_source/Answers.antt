@@ -1,6 +1,5 @@
 -- The end of the text, or of the body.
 use mathlib.Core.Path.{ap}
-use borrow.Author.Rules.{rules}
 use borrow.Author.Tests.{eq-eqb, ne_eqb}
 use Rattle.machine.specs.Machine.{keeping}
 use Rattle.machine.proofs.run.Run.end_source.Goals as goal

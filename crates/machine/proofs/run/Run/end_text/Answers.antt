@@ -1,6 +1,5 @@
 -- Open quotes are refused first, then an open call.
 use borrow.Author.Tests.{lt-ltb, le-ltb, eq-eqb, ne_eqb}
-use borrow.Author.Rules.{rules}
 use Rattle.machine.proofs.run.Run.end_text.Goals as goal
 
 pub returns-then-self-gt0 : goal.returns-then-self-gt0

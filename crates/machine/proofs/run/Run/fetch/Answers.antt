@@ -1,6 +1,5 @@
 -- What is asked depends on whether a body is read.
 use borrow.Author.Tests.{eq-eqb, ne_eqb}
-use borrow.Author.Rules.{rules}
 use Rattle.machine.proofs.run.Run.fetch.Goals as goal
 
 pub returns-then-self-eq-NOWHERE : goal.returns-then-self-eq-NOWHERE

@@ -1,6 +1,5 @@
 -- A parameter that was not supplied is refused, any other is copied.
 use borrow.Author.Tests.{eq-eqb, ne_eqb}
-use borrow.Author.Rules.{rules}
 use Rattle.machine.proofs.run.Run.fetch_argument.Goals as goal
 
 pub returns-then-position-eq-NOWHERE : goal.returns-then-position-eq-NOWHERE

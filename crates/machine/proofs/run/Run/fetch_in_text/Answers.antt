@@ -1,6 +1,5 @@
 -- With no open call the byte is written, else it is refused.
 use borrow.Author.Tests.{eq-eqb, ne_eqb}
-use borrow.Author.Rules.{rules}
 use Rattle.machine.proofs.run.Run.fetch_in_text.Goals as goal
 
 pub returns-then-self-eq-NOWHERE : goal.returns-then-self-eq-NOWHERE

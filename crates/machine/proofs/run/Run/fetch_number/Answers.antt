@@ -1,6 +1,5 @@
 -- A number that is none is refused, any other is looked for in the list.
 use borrow.Author.Tests.{eq-eqb, ne_eqb}
-use borrow.Author.Rules.{rules}
 use Rattle.machine.proofs.run.Run.fetch_number.Goals as goal
 
 pub returns-then-number-eq-NOWHERE : goal.returns-then-number-eq-NOWHERE

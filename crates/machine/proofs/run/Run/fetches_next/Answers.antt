@@ -1,6 +1,5 @@
 -- Inside quotes nothing is fetched; else the kind decides.
 use borrow.Author.Tests.{lt-ltb, le-ltb}
-use borrow.Author.Rules.{rules}
 use Rattle.machine.proofs.run.Run.fetches_next.Goals as goal
 
 pub returns-then-self-gt0 : goal.returns-then-self-gt0

@@ -1,5 +1,4 @@
 -- By whether a call stands around.
-use borrow.Author.Rules.{rules}
 use Rattle.machine.proofs.run.Run.give.Goals as goal
 
 pub returns-then-is_outer : goal.returns-then-is_outer

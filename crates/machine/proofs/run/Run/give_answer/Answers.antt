@@ -1,6 +1,5 @@
 -- A refusal is handed on, and the decimal of a result is given.
 use borrow.Author.Tests.{eq-eqb, ne_eqb}
-use borrow.Author.Rules.{rules}
 use Rattle.machine.proofs.run.Run.give_answer.Goals as goal
 
 pub returns-then-outcome-ne-FINISHED : goal.returns-then-outcome-ne-FINISHED

@@ -1,6 +1,5 @@
 -- What is placed is placed where the call has ended.
 use mathlib.Core.Path.{refl}
-use borrow.Author.Rules.{rules}
 use Rattle.machine.proofs.Leaves.{ended, placed_on}
 use Rattle.machine.proofs.run.Run.give_block.Goals as goal
 

@@ -1,6 +1,5 @@
 -- The shortest decimal of the count is given.
 use mathlib.Core.Path.{ap, ◌∙◌}
-use borrow.Author.Rules.{rules}
 use Rattle.decimal.specs.declared.shortest.Decimal.{Decimal}
 use Rattle.language.specs.Expansion.{lent}
 use Rattle.machine.specs.Machine.{give_decimal}

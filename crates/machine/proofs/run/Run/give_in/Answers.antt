@@ -1,7 +1,6 @@
 -- What the cells have no room for is refused.
 use native.Mathlib.Omega.{arith}
 use borrow.Author.Tests.{lt-ltb, le-ltb}
-use borrow.Author.Rules.{rules}
 use Rattle.machine.proofs.run.Run.give_in.Goals as goal
 
 pub returns-then-cells-self : goal.returns-then-cells-self

@@ -1,7 +1,6 @@
 -- What the output has no room for is refused.
 use native.Mathlib.Omega.{arith}
 use borrow.Author.Tests.{lt-ltb, le-ltb}
-use borrow.Author.Rules.{rules}
 use Rattle.machine.proofs.run.Run.give_out.Goals as goal
 
 pub returns-then-output-self : goal.returns-then-output-self

@@ -1,6 +1,5 @@
 -- Each test that fails leaves the next one to decide.
 use borrow.Author.Tests.{lt-ltb, le-ltb, eq-eqb, ne_eqb}
-use borrow.Author.Rules.{rules}
 use Rattle.machine.proofs.run.Run.is_in_range.Goals as goal
 
 pub returns-then-cells-gt-CELLS_LIMIT : goal.returns-then-cells-gt-CELLS_LIMIT

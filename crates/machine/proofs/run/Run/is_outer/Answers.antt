@@ -1,5 +1,4 @@
 -- What the cell of the call says is unpacked.
-use borrow.Author.Rules.{rules}
 use Rattle.machine.proofs.run.Run.is_outer.Goals as goal
 
 pub returns : goal.returns

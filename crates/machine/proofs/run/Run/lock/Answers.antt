@@ -1,6 +1,5 @@
 -- The newest definition of the name is locked, and the list goes.
 use borrow.Author.Tests.{eq-eqb, ne_eqb}
-use borrow.Author.Rules.{rules}
 use Rattle.machine.proofs.run.Run.lock.Goals as goal
 
 pub returns-then-found-eq-NOWHERE : goal.returns-then-found-eq-NOWHERE

@@ -1,5 +1,4 @@
 -- The list is moved, and its links are written.
-use borrow.Author.Rules.{rules}
 use Rattle.machine.proofs.run.Run.move_list.Goals as goal
 
 pub returns : goal.returns

@@ -1,7 +1,6 @@
 -- The byte of the body, the end of the text, or its byte.
 use native.Mathlib.Omega.{arith}
 use borrow.Author.Tests.{eq-eqb, ne_eqb, le-leb, lt-leb}
-use borrow.Author.Rules.{rules}
 use Rattle.machine.proofs.run.Run.next_byte.Goals as goal
 
 pub returns-then-self-ne-NOWHERE : goal.returns-then-self-ne-NOWHERE

@@ -4,7 +4,6 @@ use mathlib.Core.Path.{◌≡◌}
 use native.Mathlib.Omega.{arith}
 use Rattle.memory.proofs.Blocks.{filled_none}
 use Rattle.machine.specs.Walks.{cell}
-use borrow.Author.Rules.{rules}
 use Rattle.machine.proofs.run.Run.note.Goals as goal
 
 pub returns-then-silent : goal.returns-then-silent

@@ -1,5 +1,4 @@
 -- The three cells of the head are written.
-use borrow.Author.Rules.{rules}
 use Rattle.machine.proofs.run.Run.open_at.Goals as goal
 
 pub returns : goal.returns

@@ -1,6 +1,5 @@
 -- The head is written and four cells are charged, unless too few are left.
 use borrow.Author.Tests.{lt-ltb, le-ltb}
-use borrow.Author.Rules.{rules}
 use Rattle.machine.proofs.run.Run.open_call.Goals as goal
 
 pub returns-then-cells-self-lt-OPEN_SIZE : goal.returns-then-cells-self-lt-OPEN_SIZE

@@ -1,6 +1,5 @@
 -- With no open call there is none, else its list cell is compared.
 use borrow.Author.Tests.{eq-eqb, ne_eqb}
-use borrow.Author.Rules.{rules}
 use Rattle.machine.proofs.run.Run.own_call.Goals as goal
 
 pub returns-then-call-eq-NOWHERE : goal.returns-then-call-eq-NOWHERE

@@ -1,7 +1,6 @@
 -- One byte more of the text is read, or of the body.
 use native.Mathlib.Omega.{arith}
 use borrow.Author.Tests.{eq-eqb, ne_eqb}
-use borrow.Author.Rules.{rules}
 use Rattle.machine.proofs.run.Run.passed.Goals as goal
 
 pub overflow_add-read : goal.overflow_add-read

@@ -4,7 +4,6 @@ use Prim.Native.Nat.{◌≤◌}
 use mathlib.Core.Path.{refl, ◌∙◌}
 use native.Mathlib.Omega.{arith}
 use lib.ListN.{length}
-use borrow.Author.Rules.{rules}
 use Rattle.language.specs.Expansion.{lent}
 use Rattle.machine.proofs.Leaves.{Carried, carries, calculates, compares, measures, val_right, update_right, answer_right, count_right, choose_right, lock_right}
 use Rattle.machine.proofs.run.Run.perform.Goals as goal
@@ -24,13 +23,13 @@ carried c =
     let first = c.argument-first.ensures.0 in
     let second = c.argument-second.ensures.0 in
     elim c.match-built_in.branch [
-      in-Val w ↦ carries w.cells-is w.output-is w.st-is w.val-st.auto.cells w.val-st.auto.output w.val-st.ensures (val_right r m inside size p h) (rw (w.in-Val.is, ← first))
-    | in-Update w ↦ carries w.cells-is w.output-is w.st-is w.update-st.auto.cells refl (w.update-st.ensures _) (update_right r m inside size p q h) (rw (w.in-Update.is, ← first, ← second))
-    | in-Arithmetic w ↦ carries w.cells-is w.output-is w.st-is w.give_answer-st.auto.cells w.give_answer-st.auto.output w.give_answer-st.ensures (answer_right r m inside size w.calculate-answer.result) (calculates r a.name h m w.in-Arithmetic.is first second w.calculate-answer.ensures)
-    | in-Seq w ↦ carries w.cells-is w.output-is w.st-is w.give_count-st.auto.cells w.give_count-st.auto.output w.give_count-st.ensures (count_right r m inside size w.compare.result) (compares r a.name h m w.in-Seq.is first second w.compare.ensures)
-    | in-Size w ↦ carries w.cells-is w.output-is w.st-is w.give_count-st-in-Size.auto.cells w.give_count-st-in-Size.auto.output w.give_count-st-in-Size.ensures (count_right r m inside size w.read.result) (measures r a.name h m w.in-Size.is first w.read.ensures)
-    | in-If w ↦ carries w.cells-is w.output-is w.st-is w.choose-st.auto.cells w.choose-st.auto.output w.choose-st.ensures (choose_right r m inside size a.name) (rw w.in-If.is)
-    | in-Lock w ↦ carries w.cells-is w.output-is w.st-is w.lock-st.auto.cells refl (w.lock-st.ensures _) (lock_right r m inside size p h) (rw (w.in-Lock.is, ← first))
+      | in-Val w ↦ carries w.cells-is w.output-is w.st-is w.val-st.auto.cells w.val-st.auto.output w.val-st.ensures (val_right r m inside size p h) (rw (w.in-Val.is, ← first))
+      | in-Update w ↦ carries w.cells-is w.output-is w.st-is w.update-st.auto.cells refl (w.update-st.ensures _) (update_right r m inside size p q h) (rw (w.in-Update.is, ← first, ← second))
+      | in-Arithmetic w ↦ carries w.cells-is w.output-is w.st-is w.give_answer-st.auto.cells w.give_answer-st.auto.output w.give_answer-st.ensures (answer_right r m inside size w.calculate-answer.result) (calculates r a.name h m w.in-Arithmetic.is first second w.calculate-answer.ensures)
+      | in-Seq w ↦ carries w.cells-is w.output-is w.st-is w.give_count-st.auto.cells w.give_count-st.auto.output w.give_count-st.ensures (count_right r m inside size w.compare.result) (compares r a.name h m w.in-Seq.is first second w.compare.ensures)
+      | in-Size w ↦ carries w.cells-is w.output-is w.st-is w.give_count-st-in-Size.auto.cells w.give_count-st-in-Size.auto.output w.give_count-st-in-Size.ensures (count_right r m inside size w.read.result) (measures r a.name h m w.in-Size.is first w.read.ensures)
+      | in-If w ↦ carries w.cells-is w.output-is w.st-is w.choose-st.auto.cells w.choose-st.auto.output w.choose-st.ensures (choose_right r m inside size a.name) (rw w.in-If.is)
+      | in-Lock w ↦ carries w.cells-is w.output-is w.st-is w.lock-st.auto.cells refl (w.lock-st.ensures _) (lock_right r m inside size p h) (rw (w.in-Lock.is, ← first))
     ]
 
 pub returns-in-Def : goal.returns-in-Def

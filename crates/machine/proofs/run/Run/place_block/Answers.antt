@@ -1,5 +1,4 @@
 -- By whether a call stands around, to the cells or to the output.
-use borrow.Author.Rules.{rules}
 use Rattle.machine.proofs.run.Run.place_block.Goals as goal
 
 pub returns-then-is_outer : goal.returns-then-is_outer

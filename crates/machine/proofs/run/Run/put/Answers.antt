@@ -1,6 +1,5 @@
 -- By whether a call is open, to the output or to its argument in hand.
 use borrow.Author.Tests.{eq-eqb, ne_eqb}
-use borrow.Author.Rules.{rules}
 use Rattle.machine.proofs.run.Run.put.Goals as goal
 
 pub returns-then-self-eq-NOWHERE : goal.returns-then-self-eq-NOWHERE

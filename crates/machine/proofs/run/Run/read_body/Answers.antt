@@ -1,5 +1,4 @@
 -- The list is moved, and what its cells say of the call around is handed on.
-use borrow.Author.Rules.{rules}
 use Rattle.machine.proofs.run.Run.read_body.Goals as goal
 
 pub returns : goal.returns

@@ -1,5 +1,4 @@
 -- The name is a built-in's or nobody's.
-use borrow.Author.Rules.{rules}
 use Rattle.machine.proofs.run.Run.refuse_name.Goals as goal
 
 pub returns-in-Known : goal.returns-in-Known

@@ -1,6 +1,5 @@
 -- What the cells say of the call is handed on.
 use mathlib.Core.Path.{refl}
-use borrow.Author.Rules.{rules}
 use Rattle.machine.proofs.run.Run.release.Goals as goal
 
 pub returns : goal.returns

@@ -1,6 +1,5 @@
 -- Each test that fails leaves the next one to decide.
 use borrow.Author.Tests.{lt-ltb, le-ltb}
-use borrow.Author.Rules.{rules}
 use Rattle.machine.proofs.run.Run.release_to.Goals as goal
 
 pub returns-then-to-self : goal.returns-then-to-self

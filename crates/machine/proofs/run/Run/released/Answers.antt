@@ -1,5 +1,4 @@
 -- The parts of the standing are set anew, the links taken apart by the callees.
-use borrow.Author.Rules.{rules}
 use Rattle.machine.proofs.run.Run.released.Goals as goal
 
 pub returns : goal.returns

@@ -1,7 +1,6 @@
 -- The call, the source and the next byte decide.
 use mathlib.Core.Path.{sym, ◌∙◌}
 use borrow.Author.Tests.{eq-eqb, ne_eqb}
-use borrow.Author.Rules.{rules}
 use Rattle.machine.proofs.run.Run.rule.Goals as goal
 
 pub returns-then-self-ne-NOWHERE : goal.returns-then-self-ne-NOWHERE

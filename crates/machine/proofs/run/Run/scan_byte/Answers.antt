@@ -1,6 +1,5 @@
 -- Inside quotes only quotes are recognised.
 use mathlib.Core.Path.{ap}
-use borrow.Author.Rules.{rules}
 use borrow.Author.Tests.{lt-ltb, le-ltb}
 use Rattle.machine.specs.Machine.{keeping}
 use Rattle.machine.proofs.run.Run.scan_byte.Goals as goal

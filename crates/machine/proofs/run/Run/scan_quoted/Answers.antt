@@ -1,6 +1,5 @@
 -- The outermost quote is left out, any other byte is put.
 use borrow.Author.Tests.{eq-eqb, ne_eqb}
-use borrow.Author.Rules.{rules}
 use Rattle.machine.proofs.run.Run.scan_quoted.Goals as goal
 
 pub returns-then-depth-eq0 : goal.returns-then-depth-eq0

@@ -1,6 +1,5 @@
 -- Each kind has its arm, and a byte of no kind is put.
 use mathlib.Core.Path.{ap}
-use borrow.Author.Rules.{rules}
 use borrow.Author.Tests.{ne_eqb}
 use Rattle.machine.specs.Machine.{keeping}
 use Rattle.machine.proofs.run.Run.scan_sign.Goals as goal

@@ -1,6 +1,5 @@
 -- With no open call the byte is written, else the argument in hand is ended.
 use borrow.Author.Tests.{eq-eqb, ne_eqb}
-use borrow.Author.Rules.{rules}
 use Rattle.machine.proofs.run.Run.separate.Goals as goal
 
 pub returns-then-self-eq-NOWHERE : goal.returns-then-self-eq-NOWHERE

@@ -1,6 +1,5 @@
 -- The last parameter that the built-in needs is there, or is missing.
 use native.Mathlib.Omega.{arith}
-use borrow.Author.Rules.{rules}
 use borrow.Author.Tests.{eq-eqb, ne_eqb}
 use Rattle.machine.proofs.Leaves.{few}
 use Rattle.machine.proofs.run.Run.supplied.Goals as goal

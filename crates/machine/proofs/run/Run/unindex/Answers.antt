@@ -1,5 +1,4 @@
 -- Where the run goes on the index is walked, and otherwise it stays.
-use borrow.Author.Rules.{rules}
 use Rattle.machine.proofs.Leaves.{ended}
 use Rattle.machine.proofs.run.Run.unindex.Goals as goal
 

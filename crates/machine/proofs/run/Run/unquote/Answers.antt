@@ -1,6 +1,5 @@
 -- In a body the byte is put, in the text it is refused.
 use borrow.Author.Tests.{eq-eqb, ne_eqb}
-use borrow.Author.Rules.{rules}
 use Rattle.machine.proofs.run.Run.unquote.Goals as goal
 
 pub returns-then-self-ne-NOWHERE : goal.returns-then-self-ne-NOWHERE

@@ -1,7 +1,6 @@
 -- The newest definition of the name is changed, unless it is locked or being read.
 use native.Mathlib.Omega.{arith}
 use borrow.Author.Tests.{eq-eqb, ne_eqb}
-use borrow.Author.Rules.{rules}
 use Rattle.machine.proofs.Leaves.{found_below}
 use Rattle.machine.proofs.run.Run.update.Goals as goal
 

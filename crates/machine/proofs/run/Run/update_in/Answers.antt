@@ -1,6 +1,5 @@
 -- A value that the definition has no room for is refused, and else put in its place.
 use borrow.Author.Tests.{lt-ltb, le-ltb}
-use borrow.Author.Rules.{rules}
 use Rattle.machine.proofs.run.Run.update_in.Goals as goal
 
 pub returns-then-room-count : goal.returns-then-room-count

@@ -1,7 +1,5 @@
 -- The newest definition of the name gives its value.
-use Prim.Native.Nat.{◌≤◌}
 use native.Mathlib.Omega.{arith}
-use borrow.Author.Rules.{rules}
 use Rattle.language.specs.Expansion.{lent}
 use Rattle.machine.proofs.Leaves.{found_below, valued, not_valued}
 use Rattle.machine.proofs.run.Run.val.Goals as goal

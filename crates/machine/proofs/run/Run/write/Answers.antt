@@ -1,6 +1,5 @@
 -- A byte for which the output has no room is refused, and else written.
 use borrow.Author.Tests.{le-leb, lt-leb}
-use borrow.Author.Rules.{rules}
 use Rattle.machine.proofs.run.Run.write.Goals as goal
 
 pub returns-then-self-output : goal.returns-then-self-output

@@ -1,6 +1,5 @@
 -- What the output has no room for is refused, and else copied behind what was written.
 use borrow.Author.Tests.{lt-ltb, le-ltb}
-use borrow.Author.Rules.{rules}
 use Rattle.machine.proofs.run.Run.write_block.Goals as goal
 
 pub returns-then-output-self : goal.returns-then-output-self
