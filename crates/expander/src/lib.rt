@@ -129,7 +129,7 @@ pub fn gpm_script(wanted: &[u8], output: &mut [u8]) -> u64
 
 // What is measured against the limits.
 fn sizes_of(text: &[u8], cells: &[u32], output: &[u8]) -> Sizes
-    ensures { result ≡ record { text = length text.entry.now; cells = length cells.now; output = length output.now } }
+    ensures { result ≡ record { text = length text.now; cells = length cells.now; output = length output.now } }
 {
     Sizes {
         text: text.len(),
