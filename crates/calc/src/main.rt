@@ -2,7 +2,7 @@
 // result. A line that names no operation, or lacks a part, is answered by a question mark.
 #![tactic(auto)]
 
-ghost use Rattle.std.specs.Prelude.{◌+◌, ◌≤◌, ◌<◌, length};
+ghost use Rattle.std.specs.Prelude.{◌≡◌, ◌≢◌, ℕ, ◌+◌, ◌≤◌, ◌<◌, length, slice_index};
 
 use decimal::operations::{Answer, Operation};
 
@@ -30,20 +30,20 @@ fn answer_lines(text: &[u8]) {
 fn answer_first(text: &[u8]) -> usize
     ensures { (0 < result) × (result ≤ length text.now + 1) }
 {
-    let end = bytes::scan::find(text, 0, text.len(), b'\n');
+    let end = first_of(text, b'\n');
     answer_line(&text[0..end]);
     io::write_all(1, b"\n");
     end + 1
 }
 
 fn answer_line(line: &[u8]) {
-    let name_end = bytes::scan::find(line, 0, line.len(), b',');
+    let name_end = first_of(line, b',');
     if name_end >= line.len() {
         io::write_all(1, b"?");
         return;
     }
     let operands = &line[name_end + 1..];
-    let first_end = bytes::scan::find(operands, 0, operands.len(), b',');
+    let first_end = first_of(operands, b',');
     if first_end >= operands.len() {
         io::write_all(1, b"?");
         return;
@@ -53,6 +53,15 @@ fn answer_line(line: &[u8]) {
         &operands[0..first_end],
         &operands[first_end + 1..],
     );
+}
+
+// Where a byte first stands, or the length where it stands nowhere.
+fn first_of(text: &[u8], byte: u8) -> usize
+    ensures within { result ≤ length text.now }
+    ensures before { (k : ℕ) → k < result → slice_index text.now k ≢ byte }
+    ensures found { result < length text.now → slice_index text.now result ≡ byte }
+{
+    text.iter().position(|b| *b == byte).unwrap_or(text.len())
 }
 
 fn calculate(name: &[u8], first: &[u8], second: &[u8]) {
@@ -65,22 +74,14 @@ fn calculate(name: &[u8], first: &[u8], second: &[u8]) {
 
 // The operation that has a name.
 fn operation(name: &[u8]) -> Named {
-    if check::same(name, b"+") {
-        return Named::Known(Operation::Sum);
+    match name {
+        b"+" => Named::Known(Operation::Sum),
+        b"-" => Named::Known(Operation::Difference),
+        b"*" => Named::Known(Operation::Product),
+        b"Quot" => Named::Known(Operation::Quotient),
+        b"Rem" => Named::Known(Operation::Remainder),
+        _ => Named::Unknown,
     }
-    if check::same(name, b"-") {
-        return Named::Known(Operation::Difference);
-    }
-    if check::same(name, b"*") {
-        return Named::Known(Operation::Product);
-    }
-    if check::same(name, b"Quot") {
-        return Named::Known(Operation::Quotient);
-    }
-    if check::same(name, b"Rem") {
-        return Named::Known(Operation::Remainder);
-    }
-    Named::Unknown
 }
 
 fn write_answer(answer: Answer) {
