@@ -8,6 +8,7 @@
 #![tactic(auto)]
 
 ghost use Rattle.std.specs.Prelude.{◌+◌, ◌≤◌, ◌≡◌, ◌++◌, length, take};
+ghost use Rattle.std.specs.Io.{ReadsAtMost};
 ghost use Rattle.io.specs.Counts.{IsPrefixLen};
 ghost use Rattle.language.specs.Outcomes;
 ghost use Rattle.expander.specs.Reports.{refused_with};
@@ -15,10 +16,14 @@ ghost use Rattle.gpm.specs.Line.{item, report_line};
 
 use expander::Report;
 use language::{Sizes, outcomes};
-use libc::{STDERR_FILENO, STDIN_FILENO, STDOUT_FILENO};
+use std::io::{ErrorKind, Read};
 
 // One byte more than a text may have, so that a longer one is seen and refused.
 const ROOM: usize = Sizes::TEXT_LIMIT + 1;
+
+const STANDARD_OUTPUT: i32 = 1;
+
+const STANDARD_ERROR: i32 = 2;
 
 const CELLS: usize = 16384;
 
@@ -36,12 +41,12 @@ struct Input {
     failed: bool,
 }
 
-fn main() {
+fn main(rt: HostRuntime) {
     let mut text = [0u8; ROOM];
-    let input = read_input(&mut text);
+    let input = read_input(&mut rt.stdin(), &mut text);
     if input.failed {
         write_report(nothing_lent());
-        io::write_all(STDERR_FILENO, b"read failed\n");
+        io::write_all(STANDARD_ERROR, b"read failed\n");
         return;
     }
     let len = input.len;
@@ -49,44 +54,39 @@ fn main() {
 }
 
 // Reads until the input ends, a read fails or the text is full.
-fn read_input(text: &mut [u8]) -> Input
+fn read_input<R: Read>(from: &mut R, text: &mut [u8]) -> Input
     ensures { IsPrefixLen result.len text.new }
 {
     let mut len = 0;
     while len < text.len() {
-        let got = read_some(&mut text[len..]);
-        let more = io::count(got, &text[len..]);
-        if more == 0 {
-            return Input {
-                len,
-                failed: got < 0,
-            };
+        match read_some(from, &mut text[len..]) {
+            Ok(0) => return Input { len, failed: false },
+            Ok(more) => len += more,
+            Err(_) => return Input { len, failed: true },
         }
-        len += more;
     }
     Input { len, failed: false }
 }
 
 // One read. One that was only interrupted is made again.
-fn read_some(text: &mut [u8]) -> isize {
-    let mut tries = TRIES;
-    let mut got = libc::read(STDIN_FILENO, text);
-    while tries > 0 {
-        if !is_interrupted(got) {
+fn read_some<R: Read>(from: &mut R, text: &mut [u8]) -> std::io::Result<usize>
+    ensures { ReadsAtMost result text.new }
+{
+    for _ in 0..TRIES {
+        let got = from.read(text);
+        if !is_interrupted(&got) {
             return got;
         }
-        got = libc::read(STDIN_FILENO, text);
-        tries -= 1;
     }
-    got
+    from.read(text)
 }
 
 // Whether the read that answered this was only interrupted.
-fn is_interrupted(got: isize) -> bool {
-    if got >= 0 {
-        return false;
+fn is_interrupted(got: &std::io::Result<usize>) -> bool {
+    match got {
+        Ok(_) => false,
+        Err(error) => error.kind() == ErrorKind::Interrupted,
     }
-    os::errno() == libc::EINTR
 }
 
 // The report where no whole text could be read: a text that cannot be lent is refused, "all counts 0".
@@ -117,18 +117,18 @@ fn run(text: &[u8]) {
 // Writes the first so many bytes of the output.
 fn write_output(output: &[u8], written: usize) {
     if written <= output.len() {
-        if io::write_all(STDOUT_FILENO, &output[0..written]) {
+        if io::write_all(STANDARD_OUTPUT, &output[0..written]) {
             return;
         }
     }
-    io::write_all(STDERR_FILENO, b"write failed\n");
+    io::write_all(STANDARD_ERROR, b"write failed\n");
 }
 
 // Writes the report's line by one write.
 fn write_report(report: Report) {
     let mut line = [0u8; LINE];
     let len = put_report(&mut line, report);
-    io::write_all(STDERR_FILENO, &line[..len]);
+    io::write_all(STANDARD_ERROR, &line[..len]);
 }
 
 // The six numbers, with single spaces between them and a line feed behind. The result is the length of the line.
