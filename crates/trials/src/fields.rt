@@ -1,12 +1,21 @@
 // Lines, fields between tabs, and decimal numbers.
-ghost use Rattle.std.specs.Prelude.{◌<◌, ◌≤◌, length};
+ghost use Rattle.std.specs.Prelude.{◌≡◌, ◌≢◌, ℕ, ◌<◌, ◌≤◌, length, slice_index};
 
 // What `number` gives for a field that is none.
 const NONE: u32 = u32::MAX;
 
+// Where a byte first stands, or the length where it stands nowhere.
+pub(crate) fn first_of(text: &[u8], byte: u8) -> usize
+    ensures within { result ≤ length text.now }
+    ensures before { (k : ℕ) → k < result → slice_index text.now k ≢ byte }
+    ensures found { result < length text.now → slice_index text.now result ≡ byte }
+{
+    text.iter().position(|b| *b == byte).unwrap_or(text.len())
+}
+
 // What stands before the first such byte, or all.
 pub(crate) fn up_to(text: &[u8], byte: u8) -> &[u8] {
-    let end = bytes::scan::find(text, 0, text.len(), byte);
+    let end = first_of(text, byte);
     &text[0..end]
 }
 
@@ -17,7 +26,7 @@ pub(crate) fn behind(text: &[u8], from: usize, byte: u8) -> usize
     if from >= text.len() {
         return text.len();
     }
-    let found = bytes::scan::find(text, from, text.len(), byte);
+    let found = from + first_of(&text[from..], byte);
     if found >= text.len() {
         return text.len();
     }

@@ -24,7 +24,7 @@ pub(crate) const OUTPUT_ROOM: usize = MOST_OUTPUT + 2 * MARGIN;
 const SIGNS_ROOM: usize = MOST_SIGNS + 2 * MARGIN;
 
 // The call that is tried.
-#[derive(Drop)]
+#[derive(Clone, Copy)]
 pub(crate) enum Call {
     Expand,
     ExpandSigns,
@@ -32,7 +32,7 @@ pub(crate) enum Call {
 }
 
 // What a trial lends beside the signs and the text.
-#[derive(Drop)]
+#[derive(Clone, Copy)]
 pub(crate) struct Lent {
     pub(crate) cells: usize,
     pub(crate) output: usize,
@@ -195,7 +195,7 @@ fn lay(signs: &[u8], room: &mut [u8])
 {
     pattern::fill_bytes(room);
     let end = MARGIN + signs.len();
-    bytes::copy(signs, &mut room[MARGIN..end]);
+    room[MARGIN..end].copy_from_slice(signs);
 }
 
 // A report that no run gives, for what cannot be lent.
@@ -232,13 +232,13 @@ pub(crate) fn output_is_right(bytes: &[u8], output: &[u8], before: &[u8]) -> boo
         return false;
     }
     let end = MARGIN + output.len();
-    if !check::same(&bytes[MARGIN..end], output) {
+    if &bytes[MARGIN..end] != output {
         return false;
     }
-    if !check::same(&bytes[0..MARGIN], &before[0..MARGIN]) {
+    if bytes[0..MARGIN] != before[0..MARGIN] {
         return false;
     }
-    check::same(&bytes[end..], &before[end..])
+    bytes[end..] == before[end..]
 }
 
 // Whether the lent cells are zero, or as before where the call is refused, and all others as before.

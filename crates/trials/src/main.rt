@@ -14,13 +14,19 @@ mod tracing;
 mod wanted;
 
 use crate::rows::File;
-use libc::STDOUT_FILENO;
+use std::fs;
+use std::io::{Cursor, Write};
+use std::os::fd::AsRawFd;
 
-fn main() {
-    try_file(b"scripts.tsv", File::Scripts, b" rows, ");
-    try_file(b"signs.tsv", File::Signs, b" signs, ");
-    try_file(b"origins.tsv", File::Origins, b" origins, ");
-    try_file(b"keys.tsv", File::Keys, b" keys, ");
+pub(crate) const STANDARD_OUTPUT: i32 = 1;
+
+const STANDARD_ERROR: i32 = 2;
+
+fn main(rt: HostRuntime) {
+    try_file(&rt, "scripts.tsv", File::Scripts, b" rows, ");
+    try_file(&rt, "signs.tsv", File::Signs, b" signs, ");
+    try_file(&rt, "origins.tsv", File::Origins, b" origins, ");
+    try_file(&rt, "keys.tsv", File::Keys, b" keys, ");
     let text = [b'x'; sizes::LONGEST];
     let wrong = sizes::try_all(&text);
     count(sizes::RUNS, b" sizes, ", wrong);
@@ -28,22 +34,39 @@ fn main() {
     count(wanted::CALLS, b" sizes of keys, ", wrong);
 }
 
-fn try_file(path: &[u8], file: File, name: &[u8]) {
-    let fd = os::open_read(path);
-    if fd < 0 {
-        os::fail(path);
-        return;
-    }
+fn try_file(rt: &HostRuntime, path: &str, file: File, name: &[u8]) {
+    let opened = match fs::open(rt, path) {
+        Ok(opened) => opened,
+        Err(error) => {
+            fail(path, &error);
+            return;
+        }
+    };
     let mut text = io::large_buffer();
-    let len = io::read_full(fd, &mut text);
-    libc::close(fd);
+    let len = io::read_full(opened.as_raw_fd(), &mut text);
+    drop(opened);
     let tried = rows::try_rows(&text[..len], file);
     count(tried.rows, name, tried.wrong);
 }
 
+// Writes a line to standard error: the path, a colon and the system's text for the error, without the number that std puts
+// in parentheses behind it.
+fn fail(path: &str, error: &std::io::Error) {
+    let mut line = Cursor::new([0u8; 256]);
+    if write!(line, "{error}").is_err() {
+        return;
+    }
+    let text = line.into_inner();
+    let message = fields::up_to(fields::up_to(&text, 0), b'(').trim_ascii_end();
+    io::write_all(STANDARD_ERROR, path.as_bytes());
+    io::write_all(STANDARD_ERROR, b": ");
+    io::write_all(STANDARD_ERROR, message);
+    io::write_all(STANDARD_ERROR, b"\n");
+}
+
 fn count(runs: usize, name: &[u8], wrong: usize) {
-    io::print_decimal(STDOUT_FILENO, runs as u64);
-    io::write_all(STDOUT_FILENO, name);
-    io::print_decimal(STDOUT_FILENO, wrong as u64);
-    io::write_all(STDOUT_FILENO, b" wrong\n");
+    io::print_decimal(STANDARD_OUTPUT, runs as u64);
+    io::write_all(STANDARD_OUTPUT, name);
+    io::print_decimal(STANDARD_OUTPUT, wrong as u64);
+    io::write_all(STANDARD_OUTPUT, b" wrong\n");
 }

@@ -6,7 +6,7 @@ use expander::Report;
 use keys::ScriptReport;
 
 // The call that is tried.
-#[derive(Drop)]
+#[derive(Clone, Copy)]
 pub(crate) enum Call {
     ScriptFor,
     GpmScript,

@@ -6,11 +6,10 @@
 // in keys.tsv the wanted bytes, the output lent, the outcome and the script.
 use crate::lending::{Call, Lent};
 use crate::tracing::Numbers;
-use crate::{fields, lending, recording, signs, tracing};
+use crate::{STANDARD_OUTPUT, fields, lending, recording, signs, tracing};
 use expander::Report;
-use libc::STDOUT_FILENO;
 
-#[derive(Drop)]
+#[derive(Clone, Copy)]
 pub(crate) enum File {
     Scripts,
     Signs,
@@ -18,7 +17,7 @@ pub(crate) enum File {
     Keys,
 }
 
-#[derive(Drop)]
+#[derive(Clone, Copy)]
 pub(crate) struct Count {
     pub(crate) rows: usize,
     pub(crate) wrong: usize,
@@ -50,9 +49,9 @@ fn is_right(row: &[u8], file: File) -> bool {
     if right {
         return true;
     }
-    io::write_all(STDOUT_FILENO, b"wrong: ");
-    io::write_all(STDOUT_FILENO, fields::field(row, 0));
-    io::write_all(STDOUT_FILENO, b"\n");
+    io::write_all(STANDARD_OUTPUT, b"wrong: ");
+    io::write_all(STANDARD_OUTPUT, fields::field(row, 0));
+    io::write_all(STANDARD_OUTPUT, b"\n");
     false
 }
 
@@ -144,7 +143,7 @@ fn keys_are_right(row: &[u8]) -> bool {
         return false;
     }
     let kinds = language::standard_kinds();
-    !check::same(signs, &kinds) || script_is_answered(recording::Call::GpmScript, signs, keys)
+    signs != kinds.as_slice() || script_is_answered(recording::Call::GpmScript, signs, keys)
 }
 
 // Whether the columns of a script for keys are right by a call.

@@ -1,11 +1,10 @@
 // Runs plain texts of five sizes on cells and output of five sizes each, and writes a line for each run that is wrong.
 ghost use Rattle.std.specs.Prelude.{◌<◌};
 
-use crate::lending;
 use crate::lending::{Call, Lent};
+use crate::{STANDARD_OUTPUT, lending};
 use expander::Report;
 use language::Sizes;
-use libc::STDOUT_FILENO;
 
 // The longest text that is tried: one byte more than may be lent.
 pub(crate) const LONGEST: usize = Sizes::TEXT_LIMIT + 1;
@@ -65,13 +64,13 @@ fn is_right(text: &[u8], len: usize, cells: usize, output: usize) -> bool {
 }
 
 fn name(len: usize, cells: usize, output: usize) {
-    io::write_all(STDOUT_FILENO, b"wrong: ");
-    io::print_decimal(STDOUT_FILENO, len as u64);
-    io::write_all(STDOUT_FILENO, b" ");
-    io::print_decimal(STDOUT_FILENO, cells as u64);
-    io::write_all(STDOUT_FILENO, b" ");
-    io::print_decimal(STDOUT_FILENO, output as u64);
-    io::write_all(STDOUT_FILENO, b"\n");
+    io::write_all(STANDARD_OUTPUT, b"wrong: ");
+    io::print_decimal(STANDARD_OUTPUT, len as u64);
+    io::write_all(STANDARD_OUTPUT, b" ");
+    io::print_decimal(STANDARD_OUTPUT, cells as u64);
+    io::write_all(STANDARD_OUTPUT, b" ");
+    io::print_decimal(STANDARD_OUTPUT, output as u64);
+    io::write_all(STANDARD_OUTPUT, b"\n");
 }
 
 // The report of plain bytes: they are copied, one a scan, and the end of the text is one scan more.

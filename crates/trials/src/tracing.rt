@@ -9,7 +9,7 @@ const MOST_NUMBERS: usize = lending::MOST_OUTPUT + 1;
 const NUMBERS_ROOM: usize = MOST_NUMBERS + 2 * MARGIN;
 
 // How many numbers of each run are lent.
-#[derive(Drop)]
+#[derive(Clone, Copy)]
 pub(crate) struct Numbers {
     pub(crate) origins: usize,
     pub(crate) rules: usize,

@@ -1,11 +1,10 @@
 // Asks for scripts for plain keys of five sizes in output of seven sizes, and writes a line for each call that is wrong.
 ghost use Rattle.std.specs.Prelude.{◌+◌, ◌≤◌, length};
 
-use crate::recording;
 use crate::recording::Call;
+use crate::{STANDARD_OUTPUT, recording};
 use keys::ScriptReport;
 use language::Sizes;
-use libc::STDOUT_FILENO;
 
 pub(crate) const CALLS: usize = 35;
 
@@ -95,9 +94,9 @@ fn expected(len: usize, output: usize) -> u32
 }
 
 fn name(len: usize, output: usize) {
-    io::write_all(STDOUT_FILENO, b"wrong: ");
-    io::print_decimal(STDOUT_FILENO, len as u64);
-    io::write_all(STDOUT_FILENO, b" ");
-    io::print_decimal(STDOUT_FILENO, output as u64);
-    io::write_all(STDOUT_FILENO, b"\n");
+    io::write_all(STANDARD_OUTPUT, b"wrong: ");
+    io::print_decimal(STANDARD_OUTPUT, len as u64);
+    io::write_all(STANDARD_OUTPUT, b" ");
+    io::print_decimal(STANDARD_OUTPUT, output as u64);
+    io::write_all(STANDARD_OUTPUT, b"\n");
 }
