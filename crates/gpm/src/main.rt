@@ -1,10 +1,11 @@
 // Strachey's macrogenerator as a program: a script from standard input, its output to standard output, the report of the
 // run to standard error.
 //
-// A program has no exit status, so what goes wrong with the input or the output is said by a further line on standard
+// The status at the end is always 0. What goes wrong with the input or the output is said by a further line on standard
 // error, behind the report: `read failed`, where no whole text could be lent and so nothing was run, and `write failed`,
-// where some of the output may have been written. The report is written first, so it is there also where a closed pipe at
-// standard output ends the program. Where standard error itself cannot be written there is no place left to say so.
+// where some of the output may have been written. The report is written first, so it is there whatever becomes of the
+// output, as where standard output is a closed pipe. Where standard error itself cannot be written there is no place left
+// to say so.
 #![tactic(auto)]
 
 ghost use Rattle.std.specs.Prelude.{◌+◌, ◌≤◌, ◌≡◌, ◌++◌, length, take};

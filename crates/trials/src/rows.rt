@@ -130,7 +130,7 @@ fn origins_are_right(row: &[u8]) -> bool {
     )
 }
 
-// By `script_for`, and with the standard signs by the C form too.
+// By `script_for`, and with the standard signs by the call that C callers are given too.
 fn keys_are_right(row: &[u8]) -> bool {
     let table = signs::table(fields::field(row, 1));
     let len = fields::number(row, 2) as usize;
