@@ -8,8 +8,10 @@
 // to say so.
 #![tactic(auto)]
 
-ghost use Rattle.std.specs.Prelude.{◌+◌, ◌≤◌, ◌≡◌, ◌++◌, length, take};
+ghost use Rattle.std.specs.Prelude.{◌+◌, ◌<◌, ◌≤◌, ◌≡◌, ◌++◌, ◌↔◌, false, length, take, IsErrAnd, IsTrue};
+ghost use Rattle.std.specs.IoError.{error_kind};
 ghost use Rattle.std.specs.Io.{ReadsAtMost};
+ghost use Rattle.std.specs.Io.KnownBytes.{Consumes, IsAtEnd, ReadConsumes};
 ghost use Rattle.io.specs.Counts.{IsPrefixLen};
 ghost use Rattle.language.specs.Outcomes;
 ghost use Rattle.expander.specs.Reports.{refused_with};
@@ -54,9 +56,12 @@ fn main(rt: HostRuntime) {
     run(&text[..len]);
 }
 
-// Reads until the input ends, a read fails or the text is full.
+// Reads until the input ends, a read fails or the text is full. The text then begins with what the reads gave, and that is
+// all of the input where no read failed and there is room left.
 fn read_input<R: Read>(from: &mut R, text: &mut [u8]) -> Input
-    ensures { IsPrefixLen result.len text.new }
+    ensures prefix_len { IsPrefixLen result.len text.new }
+    ensures bytes { Consumes (R.remaining from.old) (R.remaining from.new) (take result.len text.new) }
+    ensures whole { result.failed ≡ false → result.len < length text.old → IsAtEnd (R.remaining from.new) }
 {
     let mut len = 0;
     while len < text.len() {
@@ -71,7 +76,8 @@ fn read_input<R: Read>(from: &mut R, text: &mut [u8]) -> Input
 
 // One read. One that was only interrupted is made again.
 fn read_some<R: Read>(from: &mut R, text: &mut [u8]) -> std::io::Result<usize>
-    ensures { ReadsAtMost result text.new }
+    ensures bound { ReadsAtMost result text.new }
+    ensures bytes { ReadConsumes (R.remaining from.old) (R.remaining from.new) result text.new }
 {
     for _ in 0..TRIES {
         let got = from.read(text);
@@ -83,7 +89,9 @@ fn read_some<R: Read>(from: &mut R, text: &mut [u8]) -> std::io::Result<usize>
 }
 
 // Whether the read that answered this was only interrupted.
-fn is_interrupted(got: &std::io::Result<usize>) -> bool {
+fn is_interrupted(got: &std::io::Result<usize>) -> bool
+    ensures { IsTrue result ↔ IsErrAnd got.now (λ e. error_kind e ≡ ErrorKind.Interrupted) }
+{
     match got {
         Ok(_) => false,
         Err(error) => error.kind() == ErrorKind::Interrupted,
