@@ -50,13 +50,11 @@ fn try_file(rt: &HostRuntime, path: &str, file: File, name: &[u8]) {
 }
 
 // Writes a line to standard error: the path, a colon and the system's text for the error, without the number that std puts
-// in parentheses behind it.
+// in parentheses behind it. A text that is longer than the room for it, as none of the system's is, is cut off.
 fn fail(path: &str, error: &std::io::Error) {
-    let mut line = Cursor::new([0u8; 256]);
-    if write!(line, "{error}").is_err() {
-        return;
-    }
-    let text = line.into_inner();
+    let mut room = Cursor::new([0u8; 256]);
+    let _whole = write!(room, "{error}").is_ok();
+    let text = room.into_inner();
     let message = fields::up_to(fields::up_to(&text, 0), b'(').trim_ascii_end();
     io::write_all(STANDARD_ERROR, path.as_bytes());
     io::write_all(STANDARD_ERROR, b": ");
