@@ -101,6 +101,7 @@ struct Divided {
 
 // Document 02, Seven. The machine's quotient is cut towards zero and its remainder has the dividend's sign; where that is
 // negative, one step of the quotient raises it by the divisor's size.
+#[tactic(auto, using(crate::proofs::Cut::unstepped))]
 fn divide(dividend: i32, divisor: i32) -> Divided
     requires { (divisor ≢ pos 0) × (divisor ≢ negsuc 0) }
     ensures { Division dividend divisor result.quotient result.remainder }

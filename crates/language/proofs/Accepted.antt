@@ -8,7 +8,7 @@ use mathlib.Core.List.{List, [], ◌∷◌, ◌++◌}
 use mathlib.Core.Option.{Option, none, some}
 use lib.ListN.{length, get_or}
 use lib.Dec.{eqb, leb, ltb}
-use borrow.Author.Tests.{ltb-true, ltb-false, eqb-true, eqb-false, not-false, le-leb, lt-leb, le-ltb, eq-eqb, ne_eqb}
+use borrow.Author.Tests.{ltb-true, ltb-false, eqb-true, eqb-false, not-false, le-leb, lt-leb, lt-ltb, le-ltb, eq-eqb, ne_eqb}
 use Rattle.language.specs.Signs.{Table, plain, sign_of_kind, sign_of, standard}
 use Rattle.language.specs.Outcomes
 use Rattle.language.specs.Matched.{All, empty, with}
@@ -132,6 +132,10 @@ searched_step {n} {k} {test} s h e =
 
 pub searched_end : {n k : ℕ} {test : ℕ → Bool} → Searched n test k → n ≤ k → some_below n test ≡ false
 searched_end {n} {k} {test} s h = let all : n ≡ k = omega (arith, s.inside) in ap (λ (j : ℕ). some_below j test) all ∙ s.none
+
+-- an entry above 6 makes it no table
+pub above_found : (T : List ℕ) (k : ℕ) → length T ≡ 256 → k < 256 → 6 < get_or T k 0 → true ≡ not_a_table T
+above_found T k long inside above = rw (eq-eqb (length T) 256 long) (sym (some_found 256 k (is_above T) inside (lt-ltb 6 (get_or T k 0) above)))
 
 -- How far a count has come.
 pub record Counted (n : ℕ) (test : ℕ → Bool) (k count : ℕ) : Type 0 where

@@ -41,6 +41,7 @@ impl Verdict {
 }
 
 // Not 256 bytes, or an entry above 6.
+#[tactic(auto, using(crate::proofs::Accepted::above_found))]
 fn not_a_table(signs: &[u8]) -> bool
     ensures { result ≡ not_a_table signs.now }
 {

@@ -271,7 +271,7 @@ fn shift(
     cells: &mut [u32],
 )
     requires { (length cells.old ≤ cells_limit) × (right ≤ list) × (list ≤ to) × (to ≤ length cells.old) × (behind ≤ 4294967296) }
-    ensures { record { cells = cells.exit.now; heads = heads.new } ≡ shifted right list behind to cells.entry.now heads.old }
+    ensures { record { cells = cells.new; heads = heads.new } ≡ shifted right list behind to cells.old heads.old }
 {
     let by = to - list;
     index::remove(heads, cells, right, list);

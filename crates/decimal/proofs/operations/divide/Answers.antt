@@ -1,5 +1,6 @@
 -- One step, or none, makes a division of the machine's quotient and remainder.
-use Rattle.decimal.proofs.Cut.{asked, unstepped, down, up}
+use borrow.Author.Rules.{rules}
+use Rattle.decimal.proofs.Cut.{asked, down, up}
 use Rattle.decimal.proofs.operations.divide.Goals as goal
 
 pub nonzero_div-quotient : goal.nonzero_div-quotient
@@ -8,30 +9,26 @@ nonzero_div-quotient c = asked c.ranges.dividend c.ranges.divisor c.requires
 pub nonzero_rem-remainder : goal.nonzero_rem-remainder
 nonzero_rem-remainder c = asked c.ranges.dividend c.ranges.divisor c.requires
 
-pub returns-then-remainder-ge0 : goal.returns-then-remainder-ge0
-returns-then-remainder-ge0 c =
-    unstepped c.ranges.dividend c.ranges.divisor c.requires c.if-remainder-ge0.true
-
 pub overflow_sub-result : goal.overflow_sub-result
 overflow_sub-result c =
-    (down c.ranges.dividend c.ranges.divisor c.requires c.if-remainder-ge0.false c.if-divisor-gt0.true).0
+    (down c.ranges.dividend c.ranges.divisor c.requires (search rules) c.if-divisor-gt0.true).0
 
 pub overflow_add-result : goal.overflow_add-result
 overflow_add-result c =
-    (down c.ranges.dividend c.ranges.divisor c.requires c.if-remainder-ge0.false c.if-divisor-gt0.true).1
+    (down c.ranges.dividend c.ranges.divisor c.requires (search rules) c.if-divisor-gt0.true).1
 
 pub returns-then-divisor-gt0 : goal.returns-then-divisor-gt0
 returns-then-divisor-gt0 c =
-    (down c.ranges.dividend c.ranges.divisor c.requires c.if-remainder-ge0.false c.if-divisor-gt0.true).2
+    (down c.ranges.dividend c.ranges.divisor c.requires (search rules) c.if-divisor-gt0.true).2
 
 pub overflow_add-result-2 : goal.overflow_add-result-2
 overflow_add-result-2 c =
-    (up c.ranges.dividend c.ranges.divisor c.requires c.if-remainder-ge0.false c.if-divisor-gt0.false).0
+    (up c.ranges.dividend c.ranges.divisor c.requires (search rules) c.if-divisor-gt0.false).0
 
 pub overflow_sub-result-2 : goal.overflow_sub-result-2
 overflow_sub-result-2 c =
-    (up c.ranges.dividend c.ranges.divisor c.requires c.if-remainder-ge0.false c.if-divisor-gt0.false).1
+    (up c.ranges.dividend c.ranges.divisor c.requires (search rules) c.if-divisor-gt0.false).1
 
 pub returns : goal.returns
 returns c =
-    (up c.ranges.dividend c.ranges.divisor c.requires c.if-remainder-ge0.false c.if-divisor-gt0.false).2
+    (up c.ranges.dividend c.ranges.divisor c.requires (search rules) c.if-divisor-gt0.false).2

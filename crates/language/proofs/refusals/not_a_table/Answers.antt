@@ -2,9 +2,8 @@
 use mathlib.Core.Path.{sym}
 use native.Mathlib.Omega.{arith}
 use lib.ListN.{length, get_or}
-use borrow.Author.Tests.{lt-ltb, le-ltb, eq-eqb, ne_eqb}
-use Rattle.language.specs.Refusals.{is_above}
-use Rattle.language.proofs.Accepted.{some_found, searched_start, searched_step, searched_end}
+use borrow.Author.Tests.{le-ltb, eq-eqb, ne_eqb}
+use Rattle.language.proofs.Accepted.{searched_start, searched_step, searched_end}
 use Rattle.language.proofs.refusals.not_a_table.Goals as goal
 
 pub returns-then-signs-ne256 : goal.returns-then-signs-ne256
@@ -13,17 +12,11 @@ returns-then-signs-ne256 c = rw (ne_eqb (length c.args.signs.now) 256 c.if-signs
 pub loop-byte-init : goal.loop-byte-init
 loop-byte-init c = (c.if-signs-ne256.false, searched_start)
 
-pub returns-then-signs-byte-gt6 : goal.returns-then-signs-byte-gt6
-returns-then-signs-byte-gt6 c =
-    let s = c.args.signs.now in
-    let l = c.loop-byte in
-    rw (eq-eqb (length s) 256 l.invariant.0) (sym (some_found 256 l.byte (is_above s) (omega arith) (lt-ltb 6 (get_or s l.byte 0) c.if-signs-byte-gt6.true)))
-
 pub loop-byte-preserved : goal.loop-byte-preserved
 loop-byte-preserved c =
     let s = c.args.signs.now in
     let l = c.loop-byte in
-    (l.invariant.0, searched_step l.invariant.1 (omega arith) (le-ltb 6 (get_or s l.byte 0) c.if-signs-byte-gt6.false))
+    (l.invariant.0, searched_step l.invariant.1 (omega arith) (le-ltb 6 (get_or s l.byte 0) (omega arith)))
 
 pub returns : goal.returns
 returns c =

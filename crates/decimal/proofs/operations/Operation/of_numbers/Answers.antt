@@ -1,5 +1,5 @@
 -- A sum, a difference and a product fit 64 bits, so they are the exact ones; the other two have functions of their own.
-use mathlib.Core.Path.{ap, ◌∙◌}
+use mathlib.Core.Path.{ap}
 use Rattle.decimal.specs.declared.operations.Operation.TheVariants.{Sum, Difference, Product, Quotient, Remainder}
 use Rattle.decimal.specs.Answers.{answer_of}
 use Rattle.decimal.proofs.Machine.{cast_fits, wide_fits}
@@ -30,24 +30,24 @@ overflow_mul-a c =
 pub returns-in-Sum : goal.returns-in-Sum
 returns-in-Sum c =
     let f = c.ranges in
-    rw c.in-Sum.is (c.ranged.ensures ∙ ap answer_of (wide-ranged Sum tt f.first f.second))
+    rw c.in-Sum.is (let e = ap answer_of (wide-ranged Sum tt f.first f.second) in cc)
 
 pub returns-in-Difference : goal.returns-in-Difference
 returns-in-Difference c =
     let f = c.ranges in
-    rw c.in-Difference.is (c.ranged-in-Difference.ensures ∙ ap answer_of (wide-ranged Difference tt f.first f.second))
+    rw c.in-Difference.is (let e = ap answer_of (wide-ranged Difference tt f.first f.second) in cc)
 
 pub returns-in-Product : goal.returns-in-Product
 returns-in-Product c =
     let f = c.ranges in
-    rw c.in-Product.is (c.ranged-in-Product.ensures ∙ ap answer_of (wide-ranged Product tt f.first f.second))
+    rw c.in-Product.is (let e = ap answer_of (wide-ranged Product tt f.first f.second) in cc)
 
 pub returns-in-Quotient : goal.returns-in-Quotient
 returns-in-Quotient c =
     let f = c.ranges in
-    rw c.in-Quotient.is (c.quotient.ensures ∙ ap answer_of (passed Quotient _ _ f.first f.second))
+    rw c.in-Quotient.is (let e = ap answer_of (passed Quotient _ _ f.first f.second) in cc)
 
 pub returns-in-Remainder : goal.returns-in-Remainder
 returns-in-Remainder c =
     let f = c.ranges in
-    rw c.in-Remainder.is (c.remainder.ensures ∙ ap answer_of (passed Remainder _ _ f.first f.second))
+    rw c.in-Remainder.is (let e = ap answer_of (passed Remainder _ _ f.first f.second) in cc)
