@@ -54,6 +54,7 @@ impl Decimal {
     }
 
     // The digits of a size behind the text, where there is room for them.
+    #[tactic(auto, using(crate::proofs::Digits::digits_small, crate::proofs::Digits::digits_some))]
     fn with_digits(self, size: u32) -> Decimal
         ensures { (t : List ℕ) → self ≡ decimal_of t → length t + length (digits size) ≤ 11 → result ≡ decimal_of (t ++ digits size) }
     {
