@@ -3,7 +3,7 @@ use Prim.Native.Nat.{ℕ, zero, suc, ◌+◌, ◌-◌, ◌*◌, ◌/◌, ◌%◌
 use mathlib.Core.Path.{◌≡◌, refl, sym, ap, ◌∙◌}
 use mathlib.Core.Bool.{Bool, true, false, cond}
 use mathlib.Core.List.{List, [], ◌∷◌, ◌++◌}
-use mathlib.Core.Option.{Option, none, some}
+use Rattle.std.specs.Prelude.{Option, None, Some}
 use native.Mathlib.Omega.{arith}
 use native.Mathlib.Nat.{div-lt_iff_lt-mul, pow-suc}
 use native.Mathlib.Decide.{dec_lt}
@@ -67,8 +67,8 @@ digits-count (suc k) n h = elim (dec_lt n 10) [
 
 -- digits behind what was read
 abbrev pub then_digits : Option ℕ → List ℕ → Option ℕ
-then_digits none t = none
-then_digits (some n) t = digits_from n t
+then_digits None t = None
+then_digits (Some n) t = digits_from n t
 
 -- reading two texts behind one another
 pub digits_from-append : (n : ℕ) (s t : List ℕ) → digits_from n (s ++ t) ≡ then_digits (digits_from n s) t
@@ -77,7 +77,7 @@ digits_from-append n [] t = refl
 digits_from-append n (b ∷ s) t = go (is_digit b) (digits_from-append (10 * n + (b - 48)) s t)
   where
     go : (digit : Bool) → digits_from (10 * n + (b - 48)) (s ++ t) ≡ then_digits (digits_from (10 * n + (b - 48)) s) t
-        → cond digit (digits_from (10 * n + (b - 48)) (s ++ t)) none ≡ then_digits (cond digit (digits_from (10 * n + (b - 48)) s) none) t
+        → cond digit (digits_from (10 * n + (b - 48)) (s ++ t)) None ≡ then_digits (cond digit (digits_from (10 * n + (b - 48)) s) None) t
     go true h = h
     go false h = refl
 
@@ -94,15 +94,15 @@ pub is_digit_lem : (b : ℕ) → 48 ≤ b → b ≤ 57 → is_digit b ≡ true
 is_digit_lem b h k = rw (le-leb 48 b h, le-leb b 57 k)
 
 -- one digit more is ten times the number and the digit
-pub digit_read : (n d : ℕ) → d < 10 → digits_from n ((48 + d) ∷ []) ≡ some (10 * n + d)
+pub digit_read : (n d : ℕ) → d < 10 → digits_from n ((48 + d) ∷ []) ≡ Some (10 * n + d)
 unfolding digits_from
 digit_read n d h = let e : 48 + d - 48 ≡ d = omega arith in rw (is_digit_lem (48 + d) (omega arith) (omega arith), e)
 
 -- the digits of a number read back as the number
-pub digits_read : (n : ℕ) → digits_from 0 (digits n) ≡ some n
-digits_read = by_digits (λ n. digits_from 0 (digits n) ≡ some n)
-    (λ n h. rw (digits_small n h, digit_read 0 n h) (ap some (omega arith)))
-    (λ n h k. rw (digits_step n h, digits_from-append, k, digit_read (n / 10) (n % 10) (omega arith)) (ap some (omega arith)))
+pub digits_read : (n : ℕ) → digits_from 0 (digits n) ≡ Some n
+digits_read = by_digits (λ n. digits_from 0 (digits n) ≡ Some n)
+    (λ n h. rw (digits_small n h, digit_read 0 n h) (ap Some (omega arith)))
+    (λ n h k. rw (digits_step n h, digits_from-append, k, digit_read (n / 10) (n % 10) (omega arith)) (ap Some (omega arith)))
 
 -- a text that is not empty has one or more digits
 from_zero_lem : (t : List ℕ) → 0 < length t → one_or_more t ≡ digits_from 0 t
@@ -110,7 +110,7 @@ from_zero_lem [] h = absurd (omega arith)
 from_zero_lem (b ∷ t) h = refl
 
 -- so the digits of a number are one or more digits that are worth it
-pub reads_back : (n : ℕ) → one_or_more (digits n) ≡ some n
+pub reads_back : (n : ℕ) → one_or_more (digits n) ≡ Some n
 reads_back n = from_zero_lem (digits n) (digits_some n) ∙ digits_read n
 
 -- "leading zeros count for nothing"

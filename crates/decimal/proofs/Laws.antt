@@ -5,7 +5,7 @@ use mathlib.Core.Path.{◌≡◌, refl, sym, ap, ◌∙◌}
 use mathlib.Core.Logic.{inl, inr}
 use mathlib.Core.Bool.{Bool, true, false, cond, ◌&&◌}
 use mathlib.Core.List.{List, [], ◌∷◌}
-use mathlib.Core.Option.{Option, none, some}
+use Rattle.std.specs.Prelude.{Option, None, Some}
 use native.Mathlib.Omega.{arith}
 use native.Mathlib.Nat.{pow-suc, mul-le-mul_right}
 use borrow.Author.Tests.{ne_eqb, leb-true}
@@ -26,7 +26,7 @@ use Rattle.decimal.specs.Answers.{decimal_of}
 use Rattle.decimal.specs.Arithmetic.{number, refused, divides, is_zero, exact, ranged, of_operands, calculated}
 
 -- nothing is no number
-pub none_some : {A : Type 0} {a : A} → none ≡ some a → ⊥
+pub none_some : {A : Type 0} {a : A} → None ≡ Some a → ⊥
 none_some e = let q : ◌≡◌ {A = ℕ} 0 1 = cc in omega arith
 
 -- every byte of the digits is a digit
@@ -55,12 +55,12 @@ unsigned [] h = refl
 unsigned (b ∷ t) h = rw (ne_eqb b 43 (omega arith), ne_eqb b 45 (omega arith))
 
 -- what a shortest decimal is worth
-pub shortest-worth : (z : ℤ) → worth (shortest z) ≡ some z
+pub shortest-worth : (z : ℤ) → worth (shortest z) ≡ Some z
 shortest-worth (pos n) = rw (unsigned (digits n) (digits_bytes n), reads_back n)
 shortest-worth (negsuc n) = rw (reads_back (suc n))
 
 -- round trip: the shortest decimal of a number in range is an operand, and it is that number
-pub round_trip : (z : ℤ) → T (in_range z) → operand (shortest z) ≡ some z
+pub round_trip : (z : ℤ) → T (in_range z) → operand (shortest z) ≡ Some z
 unfolding operand
 round_trip z h = rw (shortest-worth z, true_of (in_range z) h)
 
@@ -83,18 +83,18 @@ no_leading_zero = by_digits (λ n. get_or (digits n) 0 0 ≡ 48 → digits n ≡
     (λ n h e. let z : 48 + n ≡ 48 = ap (λ t. get_or t 0 0) (sym (digits_small n h)) ∙ e in rw (digits_small n h, z))
     (λ n h k e.
     let first : get_or (digits (n / 10)) 0 0 ≡ 48 = sym (get_or-append (digits (n / 10)) _ 0 0 (digits_some (n / 10))) ∙ ap (λ t. get_or t 0 0) (sym (digits_step n h)) ∙ e in
-    let same : some (n / 10) ≡ some 0 = sym (reads_back (n / 10)) ∙ ap one_or_more (k first) ∙ reads_back 0 in
+    let same : Some (n / 10) ≡ Some 0 = sym (reads_back (n / 10)) ∙ ap one_or_more (k first) ∙ reads_back 0 in
     let none_left : n / 10 ≡ 0 = cc in
     absurd (omega arith))
 
 -- digits behind digits that are worth m are worth less than m and one more, shifted by their count
-worth_below : (m : ℕ) (t : List ℕ) (n : ℕ) → digits_from m t ≡ some n → n < (m + 1) * 10 ^ length t
+worth_below : (m : ℕ) (t : List ℕ) (n : ℕ) → digits_from m t ≡ Some n → n < (m + 1) * 10 ^ length t
 unfolding digits_from
 worth_below m [] n e = let q : m ≡ n = cc in omega arith
 worth_below m (b ∷ t) n e = go (is_digit b) refl e (worth_below (10 * m + (b - 48)) t n)
   where
-    go : (digit : Bool) → is_digit b ≡ digit → cond digit (digits_from (10 * m + (b - 48)) t) none ≡ some n
-        → (digits_from (10 * m + (b - 48)) t ≡ some n → n < (10 * m + (b - 48) + 1) * 10 ^ length t) → n < (m + 1) * 10 ^ suc (length t)
+    go : (digit : Bool) → is_digit b ≡ digit → cond digit (digits_from (10 * m + (b - 48)) t) None ≡ Some n
+        → (digits_from (10 * m + (b - 48)) t ≡ Some n → n < (10 * m + (b - 48) + 1) * 10 ^ length t) → n < (m + 1) * 10 ^ suc (length t)
     go true d q h =
         let k : b ≤ 57 = leb-true b 57 (true_of (leb b 57) (and_r (leb 48 b) (leb b 57) (holds d))) in
         let l : 10 * m + (b - 48) + 1 ≤ 10 * (m + 1) = omega arith in
@@ -102,42 +102,42 @@ worth_below m (b ∷ t) n e = go (is_digit b) refl e (worth_below (10 * m + (b -
     go false d q h = absurd (none_some q)
 
 -- so the digits of what a text of digits is worth are no longer than the text
-digits_least : (t : List ℕ) (n : ℕ) → one_or_more t ≡ some n → length (digits n) ≤ length t
+digits_least : (t : List ℕ) (n : ℕ) → one_or_more t ≡ Some n → length (digits n) ≤ length t
 digits_least [] n e = absurd (none_some e)
 digits_least (b ∷ t) n e = digits-count (length t) n (omega (arith, worth_below 0 (b ∷ t) n e))
 
 -- behind no sign or a plus sign
-positive_least : (t : List ℕ) (o : Option ℕ) (z : ℤ) → one_or_more t ≡ o → positive o ≡ some z → length (shortest z) ≤ length t
-positive_least t none z d e = absurd (none_some e)
-positive_least t (some n) z d e = let q : pos n ≡ z = cc in rw (← q) (digits_least t n d)
+positive_least : (t : List ℕ) (o : Option ℕ) (z : ℤ) → one_or_more t ≡ o → positive o ≡ Some z → length (shortest z) ≤ length t
+positive_least t None z d e = absurd (none_some e)
+positive_least t (Some n) z d e = let q : pos n ≡ z = cc in rw (← q) (digits_least t n d)
 
 -- behind a minus sign
-negative_least : (t : List ℕ) (o : Option ℕ) (z : ℤ) → one_or_more t ≡ o → negative o ≡ some z → length (shortest z) ≤ suc (length t)
-negative_least t none z d e = absurd (none_some e)
-negative_least t (some zero) z d e = let q : pos 0 ≡ z = cc in rw (← q) (omega (arith, digits_least t 0 d))
-negative_least t (some (suc n)) z d e = let q : negsuc n ≡ z = cc in rw (← q) (omega (arith, digits_least t (suc n) d))
+negative_least : (t : List ℕ) (o : Option ℕ) (z : ℤ) → one_or_more t ≡ o → negative o ≡ Some z → length (shortest z) ≤ suc (length t)
+negative_least t None z d e = absurd (none_some e)
+negative_least t (Some zero) z d e = let q : pos 0 ≡ z = cc in rw (← q) (omega (arith, digits_least t 0 d))
+negative_least t (Some (suc n)) z d e = let q : negsuc n ≡ z = cc in rw (← q) (omega (arith, digits_least t (suc n) d))
 
 -- no text that is worth a number is shorter than its shortest decimal
-pub worth_least : (t : List ℕ) (z : ℤ) → worth t ≡ some z → length (shortest z) ≤ length t
+pub worth_least : (t : List ℕ) (z : ℤ) → worth t ≡ Some z → length (shortest z) ≤ length t
 worth_least [] z e = absurd (none_some e)
 worth_least (b ∷ t) z e = go (eqb b 43) (eqb b 45) e
   where
-    go : (plus minus : Bool) → cond plus (positive (one_or_more t)) (cond minus (negative (one_or_more t)) (positive (one_or_more (b ∷ t)))) ≡ some z → length (shortest z) ≤ suc (length t)
+    go : (plus minus : Bool) → cond plus (positive (one_or_more t)) (cond minus (negative (one_or_more t)) (positive (one_or_more (b ∷ t)))) ≡ Some z → length (shortest z) ≤ suc (length t)
     go true minus q = omega (arith, positive_least t (one_or_more t) z refl q)
     go false true q = negative_least t (one_or_more t) z refl q
     go false false q = positive_least (b ∷ t) (one_or_more (b ∷ t)) z refl q
 
 -- an operand is worth its number
-operand-worth : (o : Option ℤ) (z : ℤ) → rangedOperand o ≡ some z → o ≡ some z
-operand-worth none z e = e
-operand-worth (some x) z e = go (in_range x) e
+operand-worth : (o : Option ℤ) (z : ℤ) → rangedOperand o ≡ Some z → o ≡ Some z
+operand-worth None z e = e
+operand-worth (Some x) z e = go (in_range x) e
   where
-    go : (t : Bool) → cond t (some x) none ≡ some z → some x ≡ some z
+    go : (t : Bool) → cond t (Some x) None ≡ Some z → Some x ≡ Some z
     go true q = q
     go false q = absurd (none_some q)
 
 -- no operand of a number is shorter than its shortest decimal
-pub operand_least : (t : List ℕ) (z : ℤ) → operand t ≡ some z → length (shortest z) ≤ length t
+pub operand_least : (t : List ℕ) (z : ℤ) → operand t ≡ Some z → length (shortest z) ≤ length t
 unfolding operand
 operand_least t z e = worth_least t z (operand-worth (worth t) z e)
 
@@ -157,9 +157,9 @@ numbers_in false x z e = ranged_in (in_range x) x z refl e
 
 -- and of two operands
 operands_in : (op : Operation) (a b : Option ℤ) (z : ℤ) → of_operands op a b ≡ number z → T (in_range z)
-operands_in op none b z e = absurd (no_number _ z e)
-operands_in op (some a) none z e = absurd (no_number _ z e)
-operands_in op (some a) (some b) z e = numbers_in (divides op && is_zero b) (exact op a b) z e
+operands_in op None b z e = absurd (no_number _ z e)
+operands_in op (Some a) None z e = absurd (no_number _ z e)
+operands_in op (Some a) (Some b) z e = numbers_in (divides op && is_zero b) (exact op a b) z e
 
 -- every result is in range
 pub result_in_range : (op : Operation) (first second : List ℕ) (z : ℤ) → calculated op first second ≡ number z → T (in_range z)

@@ -5,7 +5,7 @@ use mathlib.Core.Path.{◌≡◌, refl, sym, ap, ◌∙◌, subst}
 use mathlib.Core.Logic.{◌↔◌, ◌≢◌}
 use mathlib.Core.Bool.{Bool, true, false, cond, true≢false}
 use mathlib.Core.List.{List}
-use mathlib.Core.Option.{Option, none, some}
+use Rattle.std.specs.Prelude.{Option, None, Some}
 use native.Mathlib.Omega.{arith}
 use lib.Dec.{T}
 use lib.IntN.{ℤ, pos, negsuc}
@@ -19,15 +19,15 @@ use Rattle.decimal.specs.Operand.{ranged as rangedOperand}
 use Rattle.decimal.specs.Arithmetic.{DivisionOf, Result, number, refused, result_out_of_range, divides, is_zero, quotient_of, remainder_of, exact, ranged, of_operands, calculated}
 
 -- an operand is in range
-operand_in : (o : Option ℤ) (z : ℤ) → rangedOperand o ≡ some z → in_range z ≡ true
-operand_in none z e = absurd (none_some e)
-operand_in (some x) z e = go (in_range x) refl e
+operand_in : (o : Option ℤ) (z : ℤ) → rangedOperand o ≡ Some z → in_range z ≡ true
+operand_in None z e = absurd (none_some e)
+operand_in (Some x) z e = go (in_range x) refl e
   where
-    go : (t : Bool) → in_range x ≡ t → cond t (some x) none ≡ some z → in_range z ≡ true
+    go : (t : Bool) → in_range x ≡ t → cond t (Some x) None ≡ Some z → in_range z ≡ true
     go true h q = let same : x ≡ z = cc in rw (← same) h
     go false h q = absurd (none_some q)
 
-operand_range : (t : List ℕ) (z : ℤ) → operand t ≡ some z → in_range z ≡ true
+operand_range : (t : List ℕ) (z : ℤ) → operand t ≡ Some z → in_range z ≡ true
 unfolding operand
 operand_range t z e = operand_in (worth t) z e
 
@@ -51,13 +51,13 @@ not_zero b h e = true≢false (sym (ap is_zero e) ∙ h)
 
 -- a result of Quot or Rem that is neither 22 nor 23 is that of two operands, by a divisor that is not zero
 of_two : (op : Operation) → T (divides op) → (o p : Option ℤ) (x : Result) → refused 22 ≢ x → refused 23 ≢ x → of_operands op o p ≡ x
-    → (a : ℤ) × (b : ℤ) × (o ≡ some a) × (p ≡ some b) × (b ≢ pos 0) × (ranged (exact op a b) ≡ x)
-of_two op h none p x m n e = absurd (m e)
-of_two op h (some a) none x m n e = absurd (m e)
-of_two op h (some a) (some b) x m n e = go (is_zero b) refl (rw (true_of (divides op) h) at e)
+    → (a : ℤ) × (b : ℤ) × (o ≡ Some a) × (p ≡ Some b) × (b ≢ pos 0) × (ranged (exact op a b) ≡ x)
+of_two op h None p x m n e = absurd (m e)
+of_two op h (Some a) None x m n e = absurd (m e)
+of_two op h (Some a) (Some b) x m n e = go (is_zero b) refl (rw (true_of (divides op) h) at e)
   where
     go : (t : Bool) → is_zero b ≡ t → cond t (refused 23) (ranged (exact op a b)) ≡ x
-        → (a' : ℤ) × (b' : ℤ) × (some a ≡ some a') × (some b ≡ some b') × (b' ≢ pos 0) × (ranged (exact op a' b') ≡ x)
+        → (a' : ℤ) × (b' : ℤ) × (Some a ≡ Some a') × (Some b ≡ Some b') × (b' ≢ pos 0) × (ranged (exact op a' b') ≡ x)
     go true z q = absurd (n q)
     go false z q = (a, b, refl, refl, not_zero b z, q)
 
@@ -95,19 +95,19 @@ module _ (s t : List ℕ) where
 
   -- what is out of range is a result of two operands
   beyond : (op : Operation) → T (divides op) → calculated op s t ≡ refused 24
-      → (a : ℤ) × (b : ℤ) × (operand s ≡ some a) × (operand t ≡ some b) × (b ≢ pos 0) × (in_range (exact op a b) ≡ false)
+      → (a : ℤ) × (b : ℤ) × (operand s ≡ Some a) × (operand t ≡ Some b) × (b ≢ pos 0) × (in_range (exact op a b) ≡ false)
   beyond op h e =
       let other : (n : ℕ) → n < 24 → refused n ≢ refused 24 = λ n k q. omega (arith, refused_as q) in
       let (a, b, first, second, n, x) = of_two op h (operand s) (operand t) (refused 24) (other 22 (omega arith)) (other 23 (omega arith)) e in
       (a, b, first, second, n, ranged-refused (in_range (exact op a b)) (exact op a b) x)
 
   -- Quot is out of range exactly where -2147483648 is divided by -1
-  pub out_of_range_exactly : (calculated Quotient s t ≡ refused result_out_of_range) ↔ ((operand s ≡ some smallest) × (operand t ≡ some (negsuc 0)))
+  pub out_of_range_exactly : (calculated Quotient s t ≡ refused result_out_of_range) ↔ ((operand s ≡ Some smallest) × (operand t ≡ Some (negsuc 0)))
   out_of_range_exactly = (
     λ e.
         let (a, b, first, second, n, x) = beyond Quotient tt e in
         let only = out_of_range_only a b (operand_range s a first) x in
-        (first ∙ ap some only.0, second ∙ ap some only.1),
+        (first ∙ ap Some only.0, second ∙ ap Some only.1),
     λ g. rw (g.0, g.1),
   )
 

@@ -3,7 +3,7 @@ use Prim.Native.Nat.{ℕ, ◌+◌, ◌-◌, ◌*◌, ◌≤◌, min}
 use mathlib.Core.Path.{◌≡◌, refl, sym, ap, ◌∙◌}
 use mathlib.Core.Bool.{Bool, true, false, cond}
 use mathlib.Core.List.{List, [], ◌∷◌, ◌++◌}
-use mathlib.Core.Option.{Option, none, some}
+use Rattle.std.specs.Prelude.{Option, None, Some}
 use native.Mathlib.Omega.{arith}
 use native.Mathlib.Nat.{min-eq_left}
 use native.Mathlib.Decide.{dec_le}
@@ -19,10 +19,10 @@ use Rattle.decimal.specs.Reading.{beyond, new_reader, refusing, after_digit, aft
 
 -- what a reader has found, by its stage
 abbrev found_at : Stage → Reader → Option ℤ
-found_at Start r = none
-found_at Signed r = none
-found_at Digits r = ranged (some (signed r.negative r.size))
-found_at Refused r = none
+found_at Start r = None
+found_at Signed r = None
+found_at Digits r = ranged (Some (signed r.negative r.size))
+found_at Refused r = None
 
 -- what it has found, if its bytes end here
 abbrev pub found : Reader → Option ℤ
@@ -40,7 +40,7 @@ unfolding after_all
 after_all_more r s b = after_all-append r s (b ∷ [])
 
 -- a reader that has refused stays so
-refused_stays : (r : Reader) (t : List ℕ) → found (after_all (refusing r) t) ≡ none
+refused_stays : (r : Reader) (t : List ℕ) → found (after_all (refusing r) t) ≡ None
 unfolding after_all
 refused_stays r [] = refl
 refused_stays r (b ∷ t) = refused_stays r t
@@ -50,12 +50,12 @@ kept_more : (n size d : ℕ) → size ≡ min n beyond → min (10 * size + d) b
 kept_more n size d e = omega arith
 
 -- a size above every operand's is no operand's
-pub over : (minus : Bool) (n : ℕ) → beyond ≤ n → ranged (some (signed minus n)) ≡ none
+pub over : (minus : Bool) (n : ℕ) → beyond ≤ n → ranged (Some (signed minus n)) ≡ None
 over true n h = rw (out_of_range (neg_ℤ (pos n)) (omega (arith, mag_negated n)))
 over false n h = rw (out_of_range (pos n) (omega arith))
 
 -- so what is found does not depend on how far the size is kept
-kept_found : (minus : Bool) (n : ℕ) → ranged (some (signed minus (min n beyond))) ≡ ranged (some (signed minus n))
+kept_found : (minus : Bool) (n : ℕ) → ranged (Some (signed minus (min n beyond))) ≡ ranged (Some (signed minus n))
 kept_found minus n = elim (dec_le n beyond) [ yes h ↦ rw (min-eq_left h) | no h ↦ over minus (min n beyond) (omega arith) ∙ sym (over minus n (omega arith)) ]
 
 -- a number of digits with its sign
@@ -64,12 +64,12 @@ signed_of true o = negative o
 signed_of false o = positive o
 
 -- no number has no sign
-sign_none : (minus : Bool) → ranged (signed_of minus none) ≡ none
+sign_none : (minus : Bool) → ranged (signed_of minus None) ≡ None
 sign_none true = refl
 sign_none false = refl
 
 -- a number has the sign of its reader
-sign_some : (minus : Bool) (n : ℕ) → ranged (signed_of minus (some n)) ≡ ranged (some (signed minus n))
+sign_some : (minus : Bool) (n : ℕ) → ranged (signed_of minus (Some n)) ≡ ranged (Some (signed minus n))
 sign_some true n = refl
 sign_some false n = refl
 
@@ -80,7 +80,7 @@ among minus size = record { stage = Digits; negative = minus; size = size }
 -- one digit more, or a byte that is none
 digit_step : (digit minus : Bool) (n size size' : ℕ) (t : List ℕ)
     → found (after_all (among minus size) t) ≡ ranged (signed_of minus (digits_from n t))
-    → found (after_all (cond digit (among minus size) (refusing (among minus size'))) t) ≡ ranged (signed_of minus (cond digit (digits_from n t) none))
+    → found (after_all (cond digit (among minus size) (refusing (among minus size'))) t) ≡ ranged (signed_of minus (cond digit (digits_from n t) None))
 digit_step true minus n size size' t h = h
 digit_step false minus n size size' t h = refused_stays (among minus size') t ∙ sym (sign_none minus)
 

@@ -1,6 +1,6 @@
 -- Document 01, Arithmetic, and document 02, Seven: what each of the five operations gives for two operands.
 use Rattle.std.specs.Prelude.{ℕ, suc, ◌≡◌, Bool, true, false, cond, ◌&&◌, List, eqb, ℤ, pos, negsuc, neg_ℤ, nat_abs, ◌+ℤ◌, ◌-ℤ◌, ◌*ℤ◌, ◌≤ℤ◌, ◌<ℤ◌}
-use Rattle.std.proofs.Math.Option.{Option, none, some}
+use Rattle.std.specs.Prelude.{Option, None, Some}
 use Rattle.std.specs.Int.Signed.{shr_z}
 use Rattle.decimal.specs.declared.operations.Operation.{Operation}
 use Rattle.decimal.specs.declared.operations.Operation.TheVariants.{Sum, Difference, Product, Quotient, Remainder}
@@ -65,8 +65,8 @@ of_numbers op a b = cond (divides op && is_zero b) (refused divisor_zero) (range
 
 -- an operand alone: its number, or 22
 abbrev pub as_result : Option ℤ → Result
-as_result none = refused not_a_number
-as_result (some z) = number z
+as_result None = refused not_a_number
+as_result (Some z) = number z
 
 -- "First operand's 22, second's 22, 23, 24."
 abbrev pub of_results : Operation → Result → Result → Result
@@ -85,4 +85,4 @@ calculated op first second = of_operands op (operand first) (operand second)
 -- two texts are operands, and the one divided by the other has this quotient and this remainder
 abbrev pub DivisionOf : List ℕ → List ℕ → ℤ → ℤ → Type 0
 DivisionOf first second quotient remainder =
-    (dividend : ℤ) × (divisor : ℤ) × (operand first ≡ some dividend) × (operand second ≡ some divisor) × Division dividend divisor quotient remainder
+    (dividend : ℤ) × (divisor : ℤ) × (operand first ≡ Some dividend) × (operand second ≡ Some divisor) × Division dividend divisor quotient remainder

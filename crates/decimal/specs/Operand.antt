@@ -1,7 +1,7 @@
 -- Document 01, Arithmetic: "An operand is an optional `+` or `-` and one or more digits, from -2147483648 to
 -- 2147483647; leading zeros count for nothing."
 use Rattle.std.specs.Prelude.{ℕ, ◌+◌, ◌-◌, ◌*◌, Bool, cond, ◌&&◌, List, [], ◌∷◌, eqb, leb, ℤ, pos, negsuc, neg_ℤ}
-use Rattle.std.proofs.Math.Option.{Option, none, some}
+use Rattle.std.specs.Prelude.{Option, None, Some}
 use Rattle.std.specs.Int.Signed.{le_z}
 
 -- a digit is one of the bytes `0` to `9`
@@ -10,25 +10,25 @@ is_digit b = leb 48 b && leb b 57
 
 -- what digits are worth behind digits that are worth n; none where one of them is no digit
 unfoldable pub digits_from : ℕ → List ℕ → Option ℕ
-digits_from n [] = some n
-digits_from n (b ∷ bs) = let r = digits_from (10 * n + (b - 48)) bs in cond (is_digit b) r none
+digits_from n [] = Some n
+digits_from n (b ∷ bs) = let r = digits_from (10 * n + (b - 48)) bs in cond (is_digit b) r None
 
 -- "one or more digits"
 abbrev pub one_or_more : List ℕ → Option ℕ
-one_or_more [] = none
+one_or_more [] = None
 one_or_more (b ∷ bs) = digits_from 0 (b ∷ bs)
 
 abbrev pub positive : Option ℕ → Option ℤ
-positive none = none
-positive (some n) = some (pos n)
+positive None = None
+positive (Some n) = Some (pos n)
 
 abbrev pub negative : Option ℕ → Option ℤ
-negative none = none
-negative (some n) = some (neg_ℤ (pos n))
+negative None = None
+negative (Some n) = Some (neg_ℤ (pos n))
 
 -- "an optional `+` or `-`"
 abbrev pub worth : List ℕ → Option ℤ
-worth [] = none
+worth [] = None
 worth (b ∷ bs) = cond (eqb b 43) (positive (one_or_more bs)) (cond (eqb b 45) (negative (one_or_more bs)) (positive (one_or_more (b ∷ bs))))
 
 -- "from -2147483648 to 2147483647"
@@ -42,8 +42,8 @@ abbrev pub in_range : ℤ → Bool
 in_range z = le_z smallest z && le_z z largest
 
 abbrev pub ranged : Option ℤ → Option ℤ
-ranged none = none
-ranged (some z) = cond (in_range z) (some z) none
+ranged None = None
+ranged (Some z) = cond (in_range z) (Some z) None
 
 -- the number that a text is, if it is an operand
 unfoldable pub operand : List ℕ → Option ℤ

@@ -1,6 +1,6 @@
 // Reading an operand byte by byte.
 ghost use Rattle.std.specs.Prelude.{◌≡◌, List, [], ◌∷◌, ◌++◌, ℕ, ◌+◌, ◌*◌, min};
-ghost use Rattle.std.proofs.Math.Option.{some};
+ghost use Rattle.std.specs.Prelude.{Some};
 ghost use Rattle.decimal.specs.Operand.{operand, ranged};
 ghost use Rattle.decimal.specs.Arithmetic.{as_result};
 ghost use Rattle.decimal.specs.Answers.{result_in};
@@ -132,7 +132,7 @@ fn grown(size: u32, digit: u8) -> u32
 
 // The number of this sign and size, where it is in range.
 fn signed(negative: bool, size: u32) -> Operand
-    ensures { result_in result ≡ as_result (ranged (some (signed_of negative size))) }
+    ensures { result_in result ≡ as_result (ranged (Some (signed_of negative size))) }
 {
     if size > 2147483648 {
         return Operand::NoNumber;

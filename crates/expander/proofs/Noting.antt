@@ -5,7 +5,7 @@ use native.Mathlib.Nat.{zero-add}
 use mathlib.Core.Path.{◌≡◌, sym, ap, ◌∙◌}
 use mathlib.Core.Bool.{false}
 use mathlib.Core.List.{List, ◌++◌}
-use mathlib.Core.Option.{Option, none}
+use Rattle.std.specs.Prelude.{Option, None}
 use lib.ListN.{length, drop}
 use Rattle.memory.specs.Block.{placed}
 use Rattle.language.specs.Signs.{Bytes, Table, text_limit, cells_limit}
@@ -43,7 +43,7 @@ noted_all T text allowance m ns ns' h small short oct fits long =
     ∙ ap (numbers (overwritten (reads_of os) ns.origins)) (from_first (rules_of os) ns.rules)
 
 -- a run that is reported so, with its origins
-pub expands_origins : (g : GivenNumbers) {x : Returned} {ns : Numbers} → refused_by (refusals g.given) ≡ none → short_numbers g ≡ false
+pub expands_origins : (g : GivenNumbers) {x : Returned} {ns : Numbers} → refused_by (refusals g.given) ≡ None → short_numbers g ≡ false
     → x ≡ expanded g.given → NotedIn g.given g.numbers ns → returned_with x ns ≡ expanded_origins g
 unfolding expanded_origins
 expands_origins g {x} {ns} pass long is h =

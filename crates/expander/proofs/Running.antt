@@ -4,7 +4,7 @@ use native.Mathlib.Omega.{arith}
 use mathlib.Core.Path.{◌≡◌, refl, sym, ap, subst, ◌∙◌}
 use mathlib.Core.Bool.{Bool, true, false, true≢false, cond, ◌||◌}
 use mathlib.Core.List.{List, [], ◌∷◌, ◌++◌}
-use mathlib.Core.Option.{none, some}
+use Rattle.std.specs.Prelude.{None, Some}
 use lib.ListN.{length}
 use lib.Dec.{eqb, leb, ltb}
 use borrow.Author.Tests.{ltb-false}
@@ -103,7 +103,7 @@ unfolding repeated cleared
 cleared_is [] = refl
 cleared_is (x ∷ l) = ap (λ (y : List ℕ). 0 ∷ y) (cleared_is l)
 
-pub reports : (g : Given) {st : Stepped} {m : Lent} → Ran g st m → length m.cells ≡ length g.lent.cells → refused_by (refusals g) ≡ none
+pub reports : (g : Given) {st : Stepped} {m : Lent} → Ran g st m → length m.cells ≡ length g.lent.cells → refused_by (refusals g) ≡ None
     → returned (report_of st) (lent (repeated (length m.cells) 0) m.output) ≡ expanded g
 unfolding expanded
 reports g {st} {m} h size accepted =
@@ -113,7 +113,7 @@ reports g {st} {m} h size accepted =
     rw (accepted, told, left, zeroed) refl
 
 -- a call that is refused: nothing is touched
-pub refuses : (g : Given) (outcome : ℕ) → refused_by (refusals g) ≡ some outcome → returned (refused_with outcome) g.lent ≡ expanded g
+pub refuses : (g : Given) (outcome : ℕ) → refused_by (refusals g) ≡ Some outcome → returned (refused_with outcome) g.lent ≡ expanded g
 unfolding expanded
 refuses g outcome refused = rw refused refl
 
@@ -126,7 +126,7 @@ unfolding refused_by
 large g e = refuses g Outcomes.too_large (rw e refl)
 
 -- what is not refused has few enough bytes of text, few enough cells, and 256 signs
-module _ (g : Given) (accepted : refused_by (refusals g) ≡ none) where
+module _ (g : Given) (accepted : refused_by (refusals g) ≡ None) where
   fits : (too_large g ≡ false) × AcceptedTable g.table
   fits = lent_accepted (length g.text) (length g.lent.cells) (length g.lent.output) g.table accepted
 

@@ -2,7 +2,7 @@
 #![tactic(auto)]
 
 ghost use Rattle.std.specs.Prelude.{◌≡◌, ◌≤◌, length};
-ghost use Rattle.std.proofs.Math.Option.{none};
+ghost use Rattle.std.specs.Prelude.{None};
 ghost use Rattle.language.specs.Signs.{standard, text_limit, cells_limit};
 ghost use Rattle.language.specs.Refusals.{refused_by};
 ghost use Rattle.language.specs.Expansion.{lent, given, refusals, expanded};
@@ -146,7 +146,7 @@ fn expand_unnoted(
     output: &mut [u8],
     allowance: u64,
 ) -> Report
-    requires { refused_by (refusals (given kinds.now text.now (lent cells.old output.old) allowance)) ≡ none }
+    requires { refused_by (refusals (given kinds.now text.now (lent cells.old output.old) allowance)) ≡ None }
     ensures { returned result (lent cells.new output.new) ≡ expanded (given kinds.now text.now (lent cells.old output.old) allowance) }
 {
     let mut origins = [0u32; 0];
@@ -172,7 +172,7 @@ fn expand_accepted(
     rules: &mut [u32],
     allowance: u64,
 ) -> Report
-    requires { refused_by (refusals (given kinds.now text.now (lent cells.old output.old) allowance)) ≡ none }
+    requires { refused_by (refusals (given kinds.now text.now (lent cells.old output.old) allowance)) ≡ None }
     ensures { (returned result (lent cells.new output.new) ≡ expanded (given kinds.now text.now (lent cells.old output.old) allowance)) × NotedIn (given kinds.now text.now (lent cells.old output.old) allowance) (numbers origins.old rules.old) (numbers origins.new rules.new) }
 {
     let st = run_to_end(kinds, text, cells, output, origins, rules, allowance);

@@ -4,7 +4,7 @@ use native.Mathlib.Omega.{arith}
 use mathlib.Core.Path.{◌≡◌, refl, sym, ap, subst, ◌∙◌}
 use mathlib.Core.Bool.{Bool, true, false, cond, not, ◌||◌, true≢false}
 use mathlib.Core.List.{◌++◌}
-use mathlib.Core.Option.{Option, none, some}
+use Rattle.std.specs.Prelude.{Option, None, Some}
 use lib.ListN.{length, take, drop}
 use lib.Seq.{take_at}
 use lib.Dec.{eqb, ltb, T as So}
@@ -29,12 +29,12 @@ module _ (g : Asked) where
   lent-numbers = with (tt, tt) (with (tt, tt) (with (tt, tt) (with (tt, tt) empty)))
 
   -- by which check a call is refused: for its sizes, for its signs, or by its own
-  pub refused_large : too_long (length g.wanted) (length g.output) ≡ true → refused_by (refusals g) ≡ some Outcomes.too_large
+  pub refused_large : too_long (length g.wanted) (length g.output) ≡ true → refused_by (refusals g) ≡ Some Outcomes.too_large
   unfolding refused_by
   refused_large e = behind_some (lent_refusals g) (script_refusals g) Outcomes.too_large (rw e refl)
 
   module _ (fits : too_long (length g.wanted) (length g.output) ≡ false) where
-    pub refused_signs : {k : ℕ} → refused_by (sign_refusals g.table) ≡ some k → refused_by (refusals g) ≡ some k
+    pub refused_signs : {k : ℕ} → refused_by (sign_refusals g.table) ≡ Some k → refused_by (refusals g) ≡ Some k
     unfolding refused_by
     refused_signs {k} e = behind_some (lent_refusals g) (script_refusals g) k (rw fits e)
 
@@ -43,58 +43,58 @@ module _ (g : Asked) where
     refused_own e = behind_none (lent_refusals g) (script_refusals g) (rw fits e)
 
   -- and by which of its own
-  pub refused_unmatched : matched g.table g.wanted ≡ false → refused_by (script_refusals g) ≡ some Outcomes.no_script
+  pub refused_unmatched : matched g.table g.wanted ≡ false → refused_by (script_refusals g) ≡ Some Outcomes.no_script
   unfolding refused_by
   refused_unmatched u = rw u refl
 
   module _ (m : matched g.table g.wanted ≡ true) where
-    pub refused_short : length g.output < length g.wanted + 2 → refused_by (script_refusals g) ≡ some Outcomes.no_output_left
+    pub refused_short : length g.output < length g.wanted + 2 → refused_by (script_refusals g) ≡ Some Outcomes.no_output_left
     unfolding refused_by
     refused_short h = rw (m, lt-ltb (length g.output) (length (script g.table g.wanted)) (omega (arith, script-length g.table g.wanted))) refl
 
-    pub refused_not : length g.wanted + 2 ≤ length g.output → refused_by (script_refusals g) ≡ none
+    pub refused_not : length g.wanted + 2 ≤ length g.output → refused_by (script_refusals g) ≡ None
     unfolding refused_by
     refused_not h = rw (m, le-ltb (length g.output) (length (script g.table g.wanted)) (omega (arith, script-length g.table g.wanted))) refl
 
   -- what passes the checks of what is lent has such a table
-  lent_accepted : refused_by (lent_refusals g) ≡ none → AcceptedTable g.table
+  lent_accepted : refused_by (lent_refusals g) ≡ None → AcceptedTable g.table
   unfolding refused_by
   lent_accepted e = (refused_none Outcomes.too_large (too_long (length g.wanted) (length g.output)) _ e).1
 
   -- a call that is refused for what is lent
-  lent-refused : (k : ℕ) → refused_by (lent_refusals g) ≡ some k → Promised g (answered_by (some k) g)
+  lent-refused : (k : ℕ) → refused_by (lent_refusals g) ≡ Some k → Promised g (answered_by (Some k) g)
   lent-refused k h =
       let (no0, no34) = refused_with OfLent lent-numbers h in
       record {
         expands = λ e. absurd (subst (λ (j : ℕ). So (not (eqb j Outcomes.finished))) e no0);
-        none = (λ e. absurd (subst (λ (j : ℕ). So (not (eqb j Outcomes.no_script))) e no34), λ p. let q = p.0 in let z : ◌≡◌ {A = ℕ} 0 1 = cc in absurd (omega arith));
+        None = (λ e. absurd (subst (λ (j : ℕ). So (not (eqb j Outcomes.no_script))) e no34), λ p. let q = p.0 in let z : ◌≡◌ {A = ℕ} 0 1 = cc in absurd (omega arith));
       }
 
   -- one that passes these: by its own checks
-  module _ (oct : Octets g.wanted) (passes : refused_by (lent_refusals g) ≡ none) where
-    unmatched_refused : matched g.table g.wanted ≡ false → Promised g (answered_by (some Outcomes.no_script) g)
+  module _ (oct : Octets g.wanted) (passes : refused_by (lent_refusals g) ≡ None) where
+    unmatched_refused : matched g.table g.wanted ≡ false → Promised g (answered_by (Some Outcomes.no_script) g)
     unmatched_refused u = record {
       expands = λ e. absurd (omega (arith, e));
-      none = (λ e. (passes, (none_exactly g.table (lent_accepted passes) g.wanted oct).0 u), λ p. refl);
+      None = (λ e. (passes, (none_exactly g.table (lent_accepted passes) g.wanted oct).0 u), λ p. refl);
     }
 
     -- bytes with matched quotes have a script
     has_script : matched g.table g.wanted ≡ true → NoScript g.table g.wanted → ⊥
     has_script m absent = true≢false (sym m ∙ (none_exactly g.table (lent_accepted passes) g.wanted oct).1 absent)
 
-    short_refused : matched g.table g.wanted ≡ true → Promised g (answered_by (some Outcomes.no_output_left) g)
+    short_refused : matched g.table g.wanted ≡ true → Promised g (answered_by (Some Outcomes.no_output_left) g)
     short_refused m = record {
       expands = λ e. absurd (omega (arith, e));
-      none = (λ e. absurd (omega (arith, e)), λ p. absurd (has_script m p.1));
+      None = (λ e. absurd (omega (arith, e)), λ p. absurd (has_script m p.1));
     }
 
-    writes : matched g.table g.wanted ≡ true → Promised g (answered_by none g)
+    writes : matched g.table g.wanted ≡ true → Promised g (answered_by None g)
     writes m =
         let t = script g.table g.wanted in
         let e : take (length t) (t ++ drop (length t) g.output) ≡ t = take_at t (drop (length t) g.output) (length t) refl in
         record {
           expands = λ _ n h. rw e (script_expands g.table (lent_accepted passes) g.wanted (is_matched g.table g.wanted m) built_ins n h);
-          none = (λ e. absurd (omega (arith, e)), λ p. absurd (has_script m p.1));
+          None = (λ e. absurd (omega (arith, e)), λ p. absurd (has_script m p.1));
         }
 
     own_checks : Promised g (answered_by (refused_by (script_refusals g)) g)
@@ -102,7 +102,7 @@ module _ (g : Asked) where
     own_checks = go (matched g.table g.wanted) (ltb (length g.output) (length (script g.table g.wanted))) refl
       where
         go : (m s : Bool) → matched g.table g.wanted ≡ m
-            → Promised g (answered_by (cond (not m) (some Outcomes.no_script) (cond s (some Outcomes.no_output_left) none)) g)
+            → Promised g (answered_by (cond (not m) (Some Outcomes.no_script) (cond s (Some Outcomes.no_output_left) None)) g)
         go false s p = unmatched_refused p
         go true true p = short_refused p
         go true false p = writes p
@@ -112,20 +112,20 @@ module _ (g : Asked) where
   promised oct = go (refused_by (lent_refusals g)) refl
     where
       go : (r : Option ℕ) → refused_by (lent_refusals g) ≡ r → Promised g (answered_by (refused_by (lent_refusals g ++ script_refusals g)) g)
-      go (some k) h = rw (behind_some (lent_refusals g) (script_refusals g) k h) (lent-refused k h)
-      go none h = rw (behind_none (lent_refusals g) (script_refusals g) h) (own_checks oct h)
+      go (Some k) h = rw (behind_some (lent_refusals g) (script_refusals g) k h) (lent-refused k h)
+      go None h = rw (behind_none (lent_refusals g) (script_refusals g) h) (own_checks oct h)
 
   -- The answer of the definitions has what is promised.
   pub delivers : Octets g.wanted → (x : Answered) → x ≡ answered g → Scripted g x
   delivers oct x e = (e, subst (Promised g) (sym e) (promised oct))
 
   -- A call that is refused,
-  pub answers_refused : {k : ℕ} → refused_by (refusals g) ≡ some k → answered_by (some k) g ≡ answered g
+  pub answers_refused : {k : ℕ} → refused_by (refusals g) ≡ Some k → answered_by (Some k) g ≡ answered g
   unfolding answered
   answers_refused e = rw e refl
 
   -- and one that is not
-  pub answers_script : refused_by (refusals g) ≡ none
+  pub answers_script : refused_by (refusals g) ≡ None
       → record { outcome = Outcomes.finished; length = length g.wanted + 2; output = overwritten (script g.table g.wanted) g.output } ≡ answered g
   unfolding answered
   answers_script e = rw (e, script-length g.table g.wanted) refl
@@ -136,13 +136,13 @@ module _ (g : Asked) where
     pub table : length g.table ≡ 256
     pub output : length g.wanted + 2 ≤ length g.output
 
-  pub taken : refused_by (refusals g) ≡ none → Taken
+  pub taken : refused_by (refusals g) ≡ None → Taken
   unfolding refused_by
   taken e =
       let (lent, own) = both_none (lent_refusals g) (script_refusals g) e in
       let (fits, accepted) = refused_none Outcomes.too_large (too_long (length g.wanted) (length g.output)) _ lent in
       let (m, rest) = refused_none Outcomes.no_script (not (matched g.table g.wanted)) _ own in
-      let (long, end) = refused_none Outcomes.no_output_left (ltb (length g.output) (length (script g.table g.wanted))) none rest in
+      let (long, end) = refused_none Outcomes.no_output_left (ltb (length g.output) (length (script g.table g.wanted))) None rest in
       let enough = ltb-false (length g.output) (length (script g.table g.wanted)) long in
       record {
         wanted = ltb-false wanted_limit (length g.wanted) (or_none (ltb wanted_limit (length g.wanted)) _ fits);
@@ -160,8 +160,8 @@ unfolding answered
 answer_length g = go (refused_by (refusals g)) refl
   where
     go : (r : Option ℕ) → refused_by (refusals g) ≡ r → (answered_by r g).length ≤ text_limit
-    go (some k) e = omega arith
-    go none e = omega (arith, script-length g.table g.wanted, (taken g e).wanted)
+    go (Some k) e = omega arith
+    go None e = omega (arith, script-length g.table g.wanted, (taken g e).wanted)
 
 -- So both parts of an answer can be read off its number.
 pub parts_of : (g : Asked) (number : ℕ) (output : Bytes) → Numbered g number output

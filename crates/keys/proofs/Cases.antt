@@ -4,7 +4,7 @@ use Prim.Native.String.{String}
 use mathlib.Core.Path.{◌≡◌, refl}
 use mathlib.Core.Bool.{Bool, true, false, cond, ◌&&◌}
 use mathlib.Core.List.{List, [], ◌∷◌}
-use mathlib.Core.Option.{bind}
+use Rattle.std.specs.Prelude.{option_and_then}
 use lib.ListN.{take}
 use lib.Dec.{eqb}
 use Rattle.language.specs.Signs.{Bytes, ascii, Table, standard}
@@ -60,7 +60,7 @@ failing [] = []
 failing (c ∷ cs) = let r = failing cs in cond (holds c) r (c.0 ∷ r)
 
 pub answers : failing cases ≡ []
-unfolding answered refused_by some_below count_below last_below depth_after bind same
+unfolding answered refused_by some_below count_below last_below depth_after same
 answers = refl
 
 -- sizes at the limits and over them

@@ -3,7 +3,8 @@ use Prim.Native.Nat.{ℕ, zero, suc, ◌+◌, ◌-◌, ◌≤◌, ◌<◌}
 use native.Mathlib.Omega.{arith}
 use mathlib.Core.Path.{◌≡◌, refl, ap, ◌∙◌}
 use mathlib.Core.Bool.{Bool, true, false, cond}
-use mathlib.Core.Option.{Option, some, bind}
+use Rattle.std.specs.Prelude.{Option, Some}
+use Rattle.std.specs.Prelude.{option_and_then}
 use lib.ListN.{length, drop, get_or, drop_of_length-le}
 use lib.Seq.{drop-cons}
 use lib.Dec.{eqb}
@@ -15,10 +16,10 @@ use Rattle.keys.specs.Scripts.{quote_kind, unquote_kind, closed, matched}
 -- Depths ---------------------------------------------------------------------------------------------------------------
 
 -- a byte that is no quote and no unquote leaves the depth
-pub depth_other : (kind d : ℕ) → eqb kind quote_kind ≡ false → eqb kind unquote_kind ≡ false → depth_by (sign_of_kind kind) d ≡ some d
+pub depth_other : (kind d : ℕ) → eqb kind quote_kind ≡ false → eqb kind unquote_kind ≡ false → depth_by (sign_of_kind kind) d ≡ Some d
 depth_other kind d five six = rw (five, six) (go (eqb kind 1) (eqb kind 2) (eqb kind 3) (eqb kind 4))
   where
-    go : (a b c e : Bool) → depth_by (cond a dollar (cond b comma (cond c semicolon (cond e tilde plain)))) d ≡ some d
+    go : (a b c e : Bool) → depth_by (cond a dollar (cond b comma (cond c semicolon (cond e tilde plain)))) d ≡ Some d
     go true b c e = refl
     go false true c e = refl
     go false false true e = refl
@@ -26,15 +27,15 @@ depth_other kind d five six = rw (five, six) (go (eqb kind 1) (eqb kind 2) (eqb 
     go false false false false = refl
 
 -- a quote opens one more, and an unquote closes one
-pub depth_quote : (kind d : ℕ) → kind ≡ quote_kind → depth_by (sign_of_kind kind) d ≡ some (d + 1)
-depth_quote kind d e = ap (λ (k : ℕ). depth_by (sign_of_kind k) d) e ∙ ap some (omega arith)
+pub depth_quote : (kind d : ℕ) → kind ≡ quote_kind → depth_by (sign_of_kind kind) d ≡ Some (d + 1)
+depth_quote kind d e = ap (λ (k : ℕ). depth_by (sign_of_kind k) d) e ∙ ap Some (omega arith)
 
-pub depth_unquote : (kind d : ℕ) → kind ≡ unquote_kind → 0 < d → depth_by (sign_of_kind kind) d ≡ some (d - 1)
+pub depth_unquote : (kind d : ℕ) → kind ≡ unquote_kind → 0 < d → depth_by (sign_of_kind kind) d ≡ Some (d - 1)
 depth_unquote kind zero e h = absurd (omega arith)
-depth_unquote kind (suc d) e h = ap (λ (k : ℕ). depth_by (sign_of_kind k) (suc d)) e ∙ ap some (omega arith)
+depth_unquote kind (suc d) e h = ap (λ (k : ℕ). depth_by (sign_of_kind k) (suc d)) e ∙ ap Some (omega arith)
 
 -- a byte makes it deeper by one at most
-depth_grows : (g : Sign) (d k : ℕ) → depth_by g d ≡ some k → k ≤ suc d
+depth_grows : (g : Sign) (d k : ℕ) → depth_by g d ≡ Some k → k ≤ suc d
 depth_grows plain d k e = let h : d ≡ k = cc in omega arith
 depth_grows dollar d k e = let h : d ≡ k = cc in omega arith
 depth_grows comma d k e = let h : d ≡ k = cc in omega arith
@@ -56,27 +57,25 @@ module _ {T : Table} {wanted : Bytes} where
 
   -- the next byte, and the rest behind it
   matching_next : {done depth : ℕ} → Matching T wanted done depth → done < length wanted
-      → depth_after T 0 wanted ≡ bind (depth_by (sign_of T (get_or wanted done 0)) depth) (λ k. depth_after T k (drop (suc done) wanted))
+      → depth_after T 0 wanted ≡ option_and_then (λ k. depth_after T k (drop (suc done) wanted)) (depth_by (sign_of T (get_or wanted done 0)) depth)
   unfolding depth_after
   matching_next {done} {depth} r h = r.rest ∙ ap (depth_after T depth) (drop-cons wanted done 0 h)
 
   pub matching_step : {done depth k : ℕ} → Matching T wanted done depth → done < length wanted
-      → depth_by (sign_of T (get_or wanted done 0)) depth ≡ some k → Matching T wanted (done + 1) k
-  unfolding bind
+      → depth_by (sign_of T (get_or wanted done 0)) depth ≡ Some k → Matching T wanted (done + 1) k
   matching_step {done} {depth} {k} r h e =
       let next : done + 1 ≡ suc done = omega arith in
       let grows = depth_grows (sign_of T (get_or wanted done 0)) depth k e in
       rw next (record {
         inside = omega arith;
         below = omega (arith, grows, r.below);
-        rest = matching_next r h ∙ ap (λ (o : Option ℕ). bind o (λ k. depth_after T k (drop (suc done) wanted))) e;
+        rest = matching_next r h ∙ ap (λ (o : Option ℕ). option_and_then (λ k. depth_after T k (drop (suc done) wanted)) o) e;
       })
 
   -- an unquote where nothing is open
   pub matching_lost : {done : ℕ} → Matching T wanted done 0 → done < length wanted → sign_of T (get_or wanted done 0) ≡ unquote → matched T wanted ≡ false
-  unfolding bind
   matching_lost {done} r h e =
-      ap closed (matching_next r h ∙ ap (λ (g : Sign). bind (depth_by g 0) (λ k. depth_after T k (drop (suc done) wanted))) e)
+      ap closed (matching_next r h ∙ ap (λ (g : Sign). option_and_then (λ k. depth_after T k (drop (suc done) wanted)) (depth_by g 0)) e)
 
   pub matching_end : {done depth : ℕ} → Matching T wanted done depth → length wanted ≤ done → matched T wanted ≡ eqb depth 0
   unfolding depth_after

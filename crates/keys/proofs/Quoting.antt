@@ -3,7 +3,8 @@ use Prim.Native.Nat.{ℕ, zero, suc, ◌+◌}
 use native.Mathlib.Omega.{arith}
 use mathlib.Core.Path.{◌≡◌, refl, ap, ◌∙◌}
 use mathlib.Core.List.{List, [], ◌∷◌, ◌++◌, append_assoc, append-nil}
-use mathlib.Core.Option.{Option, none, some, bind}
+use Rattle.std.specs.Prelude.{Option, None, Some}
+use Rattle.std.specs.Prelude.{option_and_then}
 use lib.ListN.{length}
 use Rattle.language.specs.Signs.{Bytes, Table, Sign, plain, dollar, comma, semicolon, tilde, quote, unquote, sign_of, inside, meaning, language}
 use Rattle.language.specs.Definitions.{Definition}
@@ -45,12 +46,12 @@ in_text q t w = record { text = t; quotes = q; calls = []; bodies = []; standing
 
 module _ (T : Table) where
   -- one byte inside of quotes is copied, but for the unquote that closes the outermost
-  copies : (d k b : ℕ) (t : Bytes) (w : Standing) → depth_by (sign_of T b) d ≡ some k
+  copies : (d k b : ℕ) (t : Bytes) (w : Standing) → depth_by (sign_of T b) d ≡ Some k
       → scan no_limits (language T) (in_text (suc d) (b ∷ t) w) ≡ next (in_text (suc k) t (copied_on (b ∷ []) w))
   unfolding scan meaning
   copies d k b t w e = go (sign_of T b) d e
     where
-      go : (g : Sign) (d : ℕ) → depth_by g d ≡ some k
+      go : (g : Sign) (d : ℕ) → depth_by g d ≡ Some k
           → S.byte no_limits (language T) (inside d g) b (in_text (suc d) t (passed w)) ≡ next (in_text (suc k) t (copied_on (b ∷ []) w))
       go plain d e = let h : d ≡ k = cc in rw h
       go dollar d e = let h : d ≡ k = cc in rw h
@@ -62,10 +63,10 @@ module _ (T : Table) where
       go unquote (suc d) e = let h : d ≡ k = cc in rw h
 
   -- so are all that lead from a depth to a depth
-  copies_all : (bs : Bytes) (d k n : ℕ) (t : Bytes) (w : Standing) → depth_after T d bs ≡ some k
+  copies_all : (bs : Bytes) (d k n : ℕ) (t : Bytes) (w : Standing) → depth_after T d bs ≡ Some k
       → scans no_limits (language T) (length bs + n) (next (in_text (suc d) (bs ++ t) w))
       ≡ scans no_limits (language T) n (next (in_text (suc k) t (copied_on bs w)))
-  unfolding depth_after bind scans
+  unfolding depth_after scans
   copies_all [] d k n t w e =
       let h : d ≡ k = cc in
       let z : 0 + n ≡ n = omega arith in
@@ -75,11 +76,11 @@ module _ (T : Table) where
       run : ℕ → ℕ → Bytes → Standing → Step
       run j q t x = scans no_limits (language T) j (next (in_text q t x))
 
-      go : (o : Option ℕ) → depth_by (sign_of T b) d ≡ o → bind o (λ m. depth_after T m bs) ≡ some k
-          → ((m : ℕ) → depth_after T m bs ≡ some k → run (length bs + n) (suc m) (bs ++ t) (copied_on (b ∷ []) w) ≡ run n (suc k) t (copied_on bs (copied_on (b ∷ []) w)))
+      go : (o : Option ℕ) → depth_by (sign_of T b) d ≡ o → option_and_then (λ m. depth_after T m bs) o ≡ Some k
+          → ((m : ℕ) → depth_after T m bs ≡ Some k → run (length bs + n) (suc m) (bs ++ t) (copied_on (b ∷ []) w) ≡ run n (suc k) t (copied_on bs (copied_on (b ∷ []) w)))
           → run (suc (length bs) + n) (suc d) (b ∷ (bs ++ t)) w ≡ run n (suc k) t (copied_on (b ∷ bs) w)
-      go none p e more = absurd (none_some e)
-      go (some m) p e more =
+      go None p e more = absurd (none_some e)
+      go (Some m) p e more =
           let one : suc (length bs) + n ≡ suc (length bs + n) = omega arith in
           ap (λ (j : ℕ). run j (suc d) (b ∷ (bs ++ t)) w) one
           ∙ ap (scans no_limits (language T) (length bs + n)) (copies d m b (bs ++ t) w p)

@@ -5,7 +5,7 @@ use mathlib.Core.Path.{◌≡◌, refl, sym, ap, subst, ◌∙◌}
 use mathlib.Core.Bool.{Bool, true, false, true≢false}
 use mathlib.Core.List.{List, [], ◌∷◌}
 use mathlib.Core.Logic.{◌↔◌}
-use mathlib.Core.Option.{Option, none, some}
+use Rattle.std.specs.Prelude.{Option, None, Some}
 use lib.ListN.{length, length-append}
 use lib.Dec.{T as So}
 use borrow.Author.Tests.{eqb-true, le-ltb}
@@ -50,9 +50,9 @@ script-length T wanted = omega (arith, length-append wanted (byte_of T unquote_k
 pub is_matched : (T : Table) (bs : Bytes) → matched T bs ≡ true → Matched T bs
 is_matched T bs = go (depth_after T 0 bs)
   where
-    go : (o : Option ℕ) → closed o ≡ true → o ≡ some 0
-    go none e = absurd (true≢false (sym e))
-    go (some q) e = ap some (eqb-true q 0 e)
+    go : (o : Option ℕ) → closed o ≡ true → o ≡ Some 0
+    go None e = absurd (true≢false (sym e))
+    go (Some q) e = ap Some (eqb-true q 0 e)
 
 matched_is : (T : Table) (bs : Bytes) → Matched T bs → matched T bs ≡ true
 matched_is T bs m = ap closed m
@@ -74,7 +74,7 @@ module _ (T : Table) (accepted : AcceptedTable T) (wanted : Bytes) (m : Matched 
   script_expands n h = ap end_of (scans_ended no_limits (language T) (length wanted + 3) n (next (start (script T wanted) ds)) (script_end wanted ds) h script-scanned)
 
   -- and by substitution
-  pub script-substituted : (d : ℕ) × (substituted (language T) d (script T wanted) ds ≡ some (script_end wanted ds))
+  pub script-substituted : (d : ℕ) × (substituted (language T) d (script T wanted) ds ≡ Some (script_end wanted ds))
   script-substituted = (agreement (language T) (script T wanted) ds (script_end wanted ds)).0 (length wanted + 3, script-scanned)
 
 -- What the script needs -------------------------------------------------------------------------------------------------
@@ -106,7 +106,7 @@ module _ (T : Table) (accepted : AcceptedTable T) (wanted : Bytes) (m : Matched 
       record { output = rw e at o; scans = rw e at n }
 
   -- Whatever is lent within the limits, the script is not too long a text for it,
-  script-taken : length wanted ≤ wanted_limit → length lent.cells ≤ cells_limit → length lent.output ≤ output_limit → refused_by (E.refusals g) ≡ none
+  script-taken : length wanted ≤ wanted_limit → length lent.cells ≤ cells_limit → length lent.output ≤ output_limit → refused_by (E.refusals g) ≡ None
   unfolding refused_by
   script-taken w c o =
       rw (le-ltb text_limit (length (script T wanted)) (omega (arith, script-length T wanted)), le-ltb cells_limit (length lent.cells) c, le-ltb output_limit (length lent.output) o)
@@ -132,7 +132,7 @@ module _ (T : Table) (accepted : AcceptedTable T) (wanted : Bytes) where
       true≢false (sym (matched_only no_limits x.allowance t (built_ins_match T) x.finishes x.output) ∙ u)
 
   -- by substitution neither,
-  pub none-substituted : matched T wanted ≡ false → (t : Bytes) (d : ℕ) (e : End) → substituted (language T) d t built_ins ≡ some e
+  pub none-substituted : matched T wanted ≡ false → (t : Bytes) (d : ℕ) (e : End) → substituted (language T) d t built_ins ≡ Some e
       → finishes e.outcome ≡ true → e.output ≡ wanted → ⊥
   unfolding run
   none-substituted u t d e p f o =

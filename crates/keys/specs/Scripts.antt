@@ -1,6 +1,6 @@
 -- Document 02, Six: a script for given keys.
 use Rattle.std.specs.Prelude.{ℕ, zero, suc, ◌+◌, ◌*◌, ◌≤◌, ◌≡◌, Bool, true, false, cond, ◌||◌, not, List, [], ◌∷◌, ◌++◌, ◌↔◌, length, take, eqb, ltb}
-use Rattle.std.proofs.Math.Option.{Option, none, some}
+use Rattle.std.specs.Prelude.{Option, None, Some}
 use Rattle.language.specs.Signs.{Bytes, Table, language, output_limit}
 use Rattle.language.specs.Outcomes
 use Rattle.language.specs.Outcomes.{finishes}
@@ -68,8 +68,8 @@ too_long wanted output = ltb wanted_limit wanted || ltb output_limit output
 
 -- whether nothing is left open, where no unquote came too early
 abbrev pub closed : Option ℕ → Bool
-closed none = false
-closed (some q) = eqb q 0
+closed None = false
+closed (Some q) = eqb q 0
 
 -- whether the quotes among the bytes are matched
 abbrev pub matched : Table → Bytes → Bool
@@ -91,8 +91,8 @@ refusals g = lent_refusals g ++ script_refusals g
 
 -- "its outcome, 0 when the script is written, and the script's length, 0 if refused"; "after each the output is untouched"
 abbrev pub answered_by : Option ℕ → Asked → Answered
-answered_by (some outcome) g = record { outcome = outcome; length = 0; output = g.output }
-answered_by none g =
+answered_by (Some outcome) g = record { outcome = outcome; length = 0; output = g.output }
+answered_by None g =
     let t = script g.table g.wanted in
     record { outcome = Outcomes.finished; length = length t; output = overwritten t g.output }
 
@@ -139,7 +139,7 @@ pub record Promised (g : Asked) (x : Answered) : Type 0 where
       → run no_limits (language g.table) allowance (take x.length x.output) built_ins ≡ script_end g.wanted built_ins
   -- "It answers that there is none precisely when no script of any length finishes with those bytes as its output", behind the
   -- checks of what is lent
-  pub none : (x.outcome ≡ Outcomes.no_script) ↔ ((refused_by (lent_refusals g) ≡ none) × NoScript g.table g.wanted)
+  pub None : (x.outcome ≡ Outcomes.no_script) ↔ ((refused_by (lent_refusals g) ≡ None) × NoScript g.table g.wanted)
 
 -- What the call gives back: the first check that holds or the script, and what is promised of it.
 abbrev pub Scripted : Asked → Answered → Type 0

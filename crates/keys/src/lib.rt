@@ -2,7 +2,7 @@
 #![tactic(auto)]
 
 ghost use Rattle.std.specs.Prelude.{◌≡◌, ◌+◌, ◌≤◌, ◌<◌, length};
-ghost use Rattle.std.proofs.Math.Option.{some};
+ghost use Rattle.std.specs.Prelude.{Some};
 ghost use Rattle.language.specs.Refusals.{refused_by, refusal_in};
 ghost use Rattle.language.specs.Signs.{sign_of_kind};
 ghost use Rattle.language.specs.Matched.{depth_by};
@@ -105,7 +105,7 @@ fn quotes_match(signs: &[u8], wanted: &[u8]) -> bool
 // The depth of quotes after a byte of a kind, which is no unquote where nothing is open.
 fn depth_by(depth: usize, kind: u8) -> usize
     requires { (depth < 18446744073709551615) × (kind ≡ unquote_kind → 0 < depth) }
-    ensures { depth_by (sign_of_kind kind) depth ≡ some result }
+    ensures { depth_by (sign_of_kind kind) depth ≡ Some result }
 {
     if kind == QUOTE {
         return depth + 1;

@@ -5,7 +5,7 @@ use mathlib.Core.Path.{◌≡◌, refl, sym, ap, subst, ◌∙◌}
 use mathlib.Core.Logic.{◌↔◌}
 use mathlib.Core.Bool.{Bool, true, false, true≢false, cond, not, ◌&&◌, ◌||◌, or-false}
 use mathlib.Core.List.{List, [], ◌∷◌, ◌++◌}
-use mathlib.Core.Option.{Option, none, some}
+use Rattle.std.specs.Prelude.{Option, None, Some}
 use lib.ListN.{length, get_or}
 use lib.Dec.{eqb, leb, ltb}
 use borrow.Author.Tests.{ltb-true, ltb-false, eqb-true, eqb-false, not-false, le-leb, lt-leb, lt-ltb, le-ltb, eq-eqb, ne_eqb}
@@ -118,17 +118,17 @@ single_counts (suc n) test s = go (test n) refl (single_counts n test)
 -- How far a search among the numbers below n has come: the test holds of none below k.
 pub record Searched (n : ℕ) (test : ℕ → Bool) (k : ℕ) : Type 0 where
   pub inside : k ≤ n
-  pub none : some_below k test ≡ false
+  pub None : some_below k test ≡ false
 
 pub searched_start : {n : ℕ} {test : ℕ → Bool} → Searched n test 0
 unfolding some_below
-searched_start = record { inside = zero-le; none = refl }
+searched_start = record { inside = zero-le; None = refl }
 
 pub searched_step : {n k : ℕ} {test : ℕ → Bool} → Searched n test k → k < n → test k ≡ false → Searched n test (k + 1)
 unfolding some_below
 searched_step {n} {k} {test} s h e =
     let next : k + 1 ≡ suc k = omega arith in
-    rw next (record { inside = omega arith; none = ap (λ (t : Bool). cond t true (some_below k test)) e ∙ s.none })
+    rw next (record { inside = omega arith; None = ap (λ (t : Bool). cond t true (some_below k test)) e ∙ s.none })
 
 pub searched_end : {n k : ℕ} {test : ℕ → Bool} → Searched n test k → n ≤ k → some_below n test ≡ false
 searched_end {n} {k} {test} s h = let all : n ≡ k = omega (arith, s.inside) in ap (λ (j : ℕ). some_below j test) all ∙ s.none
@@ -215,45 +215,45 @@ pub record IsTable (T : Table) : Type 0 where
   pub reserved : (b : ℕ) → is_reserved b ≡ true → get_or T b 0 ≡ 0
 
 -- where a call is not refused no check holds
-pub refused_none : (k : ℕ) (t : Bool) (r : Option ℕ) → cond t (some k) r ≡ none → (t ≡ false) × (r ≡ none)
+pub refused_none : (k : ℕ) (t : Bool) (r : Option ℕ) → cond t (Some k) r ≡ None → (t ≡ false) × (r ≡ None)
 refused_none k true r e = let z : ◌≡◌ {A = ℕ} 0 1 = cc in absurd (omega arith)
 refused_none k false r e = (refl, e)
 
 -- what holds of all numbers of the checks holds of the one that a call is refused with
-pub refused_with : (P : ℕ → Type 0) {k : ℕ} {l : List Refusal} → All (λ r. P r.outcome) l → refused_by l ≡ some k → P k
+pub refused_with : (P : ℕ → Type 0) {k : ℕ} {l : List Refusal} → All (λ r. P r.outcome) l → refused_by l ≡ Some k → P k
 unfolding refused_by
 refused_with P empty e = let z : ◌≡◌ {A = ℕ} 0 1 = cc in absurd (omega arith)
 refused_with P {k} (with {x = r} {xs = more} p ps) e = go r.holds e (refused_with P ps)
   where
-    go : (t : Bool) → cond t (some r.outcome) (refused_by more) ≡ some k → (refused_by more ≡ some k → P k) → P k
+    go : (t : Bool) → cond t (Some r.outcome) (refused_by more) ≡ Some k → (refused_by more ≡ Some k → P k) → P k
     go true q rest = let h : r.outcome ≡ k = cc in subst P h p
     go false q rest = rest q
 
 -- checks behind others are made where no earlier one holds
-pub behind_none : (a b : List Refusal) → refused_by a ≡ none → refused_by (a ++ b) ≡ refused_by b
+pub behind_none : (a b : List Refusal) → refused_by a ≡ None → refused_by (a ++ b) ≡ refused_by b
 unfolding refused_by
 behind_none [] b e = refl
 behind_none (r ∷ a) b e =
     let (here, more) = refused_none r.outcome r.holds (refused_by a) e in
     rw here (behind_none a b more)
 
-pub behind_some : (a b : List Refusal) (k : ℕ) → refused_by a ≡ some k → refused_by (a ++ b) ≡ some k
+pub behind_some : (a b : List Refusal) (k : ℕ) → refused_by a ≡ Some k → refused_by (a ++ b) ≡ Some k
 unfolding refused_by
 behind_some [] b k e = let z : ◌≡◌ {A = ℕ} 0 1 = cc in absurd (omega arith)
 behind_some (r ∷ a) b k e = go r.holds e (behind_some a b k)
   where
-    go : (t : Bool) → cond t (some r.outcome) (refused_by a) ≡ some k → (refused_by a ≡ some k → refused_by (a ++ b) ≡ some k)
-        → cond t (some r.outcome) (refused_by (a ++ b)) ≡ some k
+    go : (t : Bool) → cond t (Some r.outcome) (refused_by a) ≡ Some k → (refused_by a ≡ Some k → refused_by (a ++ b) ≡ Some k)
+        → cond t (Some r.outcome) (refused_by (a ++ b)) ≡ Some k
     go true p more = p
     go false p more = more p
 
 -- where none of all holds none of either holds
-pub both_none : (a b : List Refusal) → refused_by (a ++ b) ≡ none → (refused_by a ≡ none) × (refused_by b ≡ none)
+pub both_none : (a b : List Refusal) → refused_by (a ++ b) ≡ None → (refused_by a ≡ None) × (refused_by b ≡ None)
 both_none a b e = go (refused_by a) refl
   where
-    go : (r : Option ℕ) → refused_by a ≡ r → (r ≡ none) × (refused_by b ≡ none)
-    go (some k) h = let h' = behind_some a b k h in let z : ◌≡◌ {A = ℕ} 0 1 = cc in absurd (omega arith)
-    go none h = (refl, sym (behind_none a b h) ∙ e)
+    go : (r : Option ℕ) → refused_by a ≡ r → (r ≡ None) × (refused_by b ≡ None)
+    go (Some k) h = let h' = behind_some a b k h in let z : ◌≡◌ {A = ℕ} 0 1 = cc in absurd (omega arith)
+    go None h = (refl, sym (behind_none a b h) ∙ e)
 
 -- what is no 30 has 256 entries
 pub table_size : (T : Table) → not_a_table T ≡ false → length T ≡ 256
@@ -288,7 +288,7 @@ module _ (T : Table) where
   accepted_is a =
       let (table, more) = refused_none Outcomes.not_a_table (not_a_table T) _ a in
       let (one, last) = refused_none Outcomes.sign_not_one_byte (sign_not_one_byte T) _ more in
-      let (reserved, end) = refused_none Outcomes.reserved_sign (reserved_sign T) none last in
+      let (reserved, end) = refused_none Outcomes.reserved_sign (reserved_sign T) None last in
       record { size = table_size T table; entries = table_entries table; signs = one_byte one; reserved = plain_entry reserved }
 
   is_accepted : IsTable T → AcceptedTable T
@@ -312,7 +312,7 @@ module _ (T : Table) where
   accepted_plain a b r = ap sign_of_kind ((accepted_is a).reserved b r)
 
 -- What a call that is not refused was lent: sizes within the limits, and such a table.
-pub lent_accepted : (text cells output : ℕ) (T : Table) → refused_by (lent_refusals text cells output T) ≡ none
+pub lent_accepted : (text cells output : ℕ) (T : Table) → refused_by (lent_refusals text cells output T) ≡ None
     → (sizes_too_large text cells output ≡ false) × AcceptedTable T
 unfolding refused_by
 lent_accepted text cells output T = refused_none Outcomes.too_large (sizes_too_large text cells output) (refused_by (sign_refusals T))
@@ -323,6 +323,6 @@ unfolding refused_by some_below count_below
 standard_accepted = refl
 
 -- so that with it the sizes alone decide.
-pub standard-lent : (text cells output : ℕ) → sizes_too_large text cells output ≡ false → refused_by (lent_refusals text cells output standard) ≡ none
+pub standard-lent : (text cells output : ℕ) → sizes_too_large text cells output ≡ false → refused_by (lent_refusals text cells output standard) ≡ None
 unfolding refused_by
-standard-lent text cells output fits = ap (λ (t : Bool). cond t (some Outcomes.too_large) (refused_by (sign_refusals standard))) fits ∙ standard_accepted
+standard-lent text cells output fits = ap (λ (t : Bool). cond t (Some Outcomes.too_large) (refused_by (sign_refusals standard))) fits ∙ standard_accepted

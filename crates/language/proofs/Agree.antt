@@ -4,7 +4,7 @@ use native.Mathlib.Omega.{arith}
 use mathlib.Core.Path.{◌≡◌, refl, sym, ◌∙◌, ap}
 use mathlib.Core.Bool.{Bool, true, false}
 use mathlib.Core.List.{List, [], ◌∷◌, ◌++◌, append-nil, append_assoc}
-use mathlib.Core.Option.{Option, none, some}
+use Rattle.std.specs.Prelude.{Option, None, Some}
 use mathlib.Core.Logic.{◌↔◌}
 use lib.ListN.{length, length-append}
 use lib.Dec.{ltb, leb-suc-suc, lt→ltb}
@@ -428,8 +428,8 @@ module _ (G : Language) where
         → scan G s ≡ S.fetch_number no_limits j list (at F C 0 r h) → Puts F C r h s
         → To F C s (R.fetch_number nested go j list (collecting_of C) r h)
     unfolding To
-    number_comes F C none list r h s e k = to_finish (now e)
-    number_comes F C (some j) list r h s e k = supplied_comes F C (ltb j (length list)) (parameter j list) r h s e k
+    number_comes F C None list r h s e k = to_finish (now e)
+    number_comes F C (Some j) list r h s e k = supplied_comes F C (ltb j (length list)) (parameter j list) r h s e k
 
     fetch_text_comes : (C : Calls) (b : ℕ) (r : Bytes) (h : Held) (s : State)
         → scan G s ≡ S.fetch_in_text no_limits (calls_of C h.value) b (at in_text C 0 r h) → Puts in_text C r h s
@@ -605,27 +605,27 @@ module _ (G : Language) where
         agrees d in_text to_output [] (record { is = refl; room = zero-le; busy = refl }) 0 t (R.start ds)
         (record { charged = omega arith; grown = zero-le })
 
-    gives' : (d : ℕ) (e : End) {r : Result} → Whole d r → R.ended r ≡ some e → Gets G (stop e) (S.start t ds)
+    gives' : (d : ℕ) (e : End) {r : Result} → Whole d r → R.ended r ≡ Some e → Gets G (stop e) (S.start t ds)
     gives' d e (to_stretch {h = h} g l k) p = let q : R.end_at 0 h.handed ≡ e = cc in rw q at g
     gives' d e (to_finish {e = e'} g) p = let q : e' ≡ e = cc in rw q at g
     gives' d e (to_deeper l) p = let z : ◌≡◌ {A = ℕ} 0 1 = cc in absurd (omega arith)
 
-    given' : (n : ℕ) (e : End) → scans G n (next (S.start t ds)) ≡ stop e → {r : Result} → Whole n r → R.ended r ≡ some e
-    given' n e p (to_stretch g l k) = ap some (gets_once G g (scans_gets G n (S.start t ds) e p))
-    given' n e p (to_finish g) = ap some (gets_once G g (scans_gets G n (S.start t ds) e p))
+    given' : (n : ℕ) (e : End) → scans G n (next (S.start t ds)) ≡ stop e → {r : Result} → Whole n r → R.ended r ≡ Some e
+    given' n e p (to_stretch g l k) = ap Some (gets_once G g (scans_gets G n (S.start t ds) e p))
+    given' n e p (to_finish g) = ap Some (gets_once G g (scans_gets G n (S.start t ds) e p))
     given' n e p (to_deeper l) = absurd (not_longer G n (S.start t ds) e p l)
 
     -- Agreement: the unlimited machine reaches an end if and only if some depth gives that end
-    pub agreement : (e : End) → ((n : ℕ) × (S.scans no_limits G n (next (S.start t ds)) ≡ stop e)) ↔ ((d : ℕ) × (substituted G d t ds ≡ some e))
+    pub agreement : (e : End) → ((n : ℕ) × (S.scans no_limits G n (next (S.start t ds)) ≡ stop e)) ↔ ((d : ℕ) × (substituted G d t ds ≡ Some e))
     unfolding substituted
     agreement e = (λ p. (p.0, given' p.0 e p.1 (whole p.0)), λ p. gets_scans G (gives' p.0 e (whole p.0) p.1))
 
     -- every depth that is at least the number of scans is enough
-    pub depth_enough : (n k : ℕ) (e : End) → S.scans no_limits G n (next (S.start t ds)) ≡ stop e → substituted G (n + k) t ds ≡ some e
+    pub depth_enough : (n k : ℕ) (e : End) → S.scans no_limits G n (next (S.start t ds)) ≡ stop e → substituted G (n + k) t ds ≡ Some e
     unfolding substituted
     depth_enough n k e p = given' (n + k) e (scans_more G n k (next (S.start t ds)) e p) (whole (n + k))
 
     -- all depths that give an end give the same one
-    pub depth_once : (d d' : ℕ) (e e' : End) → substituted G d t ds ≡ some e → substituted G d' t ds ≡ some e' → e ≡ e'
+    pub depth_once : (d d' : ℕ) (e e' : End) → substituted G d t ds ≡ Some e → substituted G d' t ds ≡ Some e' → e ≡ e'
     unfolding substituted
     depth_once d d' e e' p p' = gets_once G (gives' d e (whole d) p) (gives' d' e' (whole d') p')

@@ -7,7 +7,7 @@ use Prim.Native.String.{String}
 use mathlib.Core.Path.{◌≡◌, refl, ap, ◌∙◌}
 use mathlib.Core.Bool.{Bool, true, false, cond, ◌&&◌}
 use mathlib.Core.List.{List, [], ◌∷◌, ◌++◌}
-use mathlib.Core.Option.{Option, none, some}
+use Rattle.std.specs.Prelude.{Option, None, Some}
 use lib.ListN.{length, replicate}
 use lib.Dec.{eqb}
 use Rattle.decimal.specs.Operand.{operand, digits_from}
@@ -279,8 +279,8 @@ abbrev by_scanning : Language → Case → Bool
 by_scanning G c = ends (ran G (ascii c.1)) (ascii c.2) c.3
 
 abbrev ends_as : Option End → Bytes → Reported → Bool
-ends_as none output report = false
-ends_as (some e) output report = ends e output report
+ends_as None output report = false
+ends_as (Some e) output report = ends e output report
 
 abbrev by_substitution : Language → Case → Bool
 by_substitution G c = ends_as (substituted G 100 (ascii c.1) built_ins) (ascii c.2) c.3
@@ -344,14 +344,14 @@ abbrev before_locked : Left
 before_locked = ("$DEF,k,ab;$LOCK,k;$UPDATE,k,c$DEF,m,z;;", stands "m" "z" 1 ∷ stands_locked "k" "ab" 2 ∷ [])
 
 abbrev left_by : Option End → Option (List Definition)
-left_by none = none
-left_by (some e) = some e.definitions
+left_by None = None
+left_by (Some e) = Some e.definitions
 
 abbrev LeftByScanning : Left → Type 0
 LeftByScanning c = (ran now (ascii c.0)).definitions ≡ c.1 ++ built_ins
 
 abbrev LeftBySubstitution : Left → Type 0
-LeftBySubstitution c = left_by (substituted now 100 (ascii c.0) built_ins) ≡ some (c.1 ++ built_ins)
+LeftBySubstitution c = left_by (substituted now 100 (ascii c.0) built_ins) ≡ Some (c.1 ++ built_ins)
 
 pub left_by_scanning : LeftByScanning updated × LeftByScanning list_and_body × LeftByScanning before_refusal × LeftByScanning before_empty_name × LeftByScanning locked
     × LeftByScanning locked_then_defined × LeftByScanning locked_in_its_list × LeftByScanning locked_in_a_body × LeftByScanning before_locked
@@ -370,8 +370,8 @@ abbrev one_defined : List Definition
 one_defined = stands "k" "ab" 2 ∷ built_ins
 
 abbrev report_of : Option End → Option Reported
-report_of none = none
-report_of (some e) = some (reported e)
+report_of None = None
+report_of (Some e) = Some (reported e)
 
 pub started_by_scanning :
     (reported (run no_limits now 100 [] one_defined) ≡ report 0 0 0 1 8 1)
@@ -380,16 +380,16 @@ unfolding run scan scans same newest live among deed arguments_price definitions
 started_by_scanning = (refl, refl)
 
 pub started_by_substitution :
-    (report_of (substituted now 100 [] one_defined) ≡ some (report 0 0 0 1 8 1))
-    × (report_of (substituted now 100 (ascii "$k;") one_defined) ≡ some (report 0 3 2 7 14 1))
+    (report_of (substituted now 100 [] one_defined) ≡ Some (report 0 0 0 1 8 1))
+    × (report_of (substituted now 100 (ascii "$k;") one_defined) ≡ Some (report 0 3 2 7 14 1))
 unfolding substituted eval within same newest live among deed arguments_price definitions_price meaning
 started_by_substitution = (refl, refl)
 
 -- The bytes that may follow `~` in a body, with the parameter that each stands for -----------------------------------------
 
 abbrev with_number : ℕ → Option ℕ → List (ℕ × ℕ) → List (ℕ × ℕ)
-with_number b none r = r
-with_number b (some k) r = (b, k) ∷ r
+with_number b None r = r
+with_number b (Some k) r = (b, k) ∷ r
 
 -- those of n bytes from b on
 abbrev numbered : (ℕ → Option ℕ) → ℕ → ℕ → List (ℕ × ℕ)
@@ -500,11 +500,11 @@ over_limit g = sizes_too_large (length g.text) (length g.lent.cells) (length g.l
 
 pub too_large_lem : (g : Given) → over_limit g ≡ true → expanded g ≡ record { report = report 2 0 0 0 0 0; lent = g.lent }
 unfolding expanded refused_by
-too_large_lem g h = ap (λ (x : Bool). answered (cond x (some Outcomes.too_large) (refused_by (sign_refusals g.table))) g) h
+too_large_lem g h = ap (λ (x : Bool). answered (cond x (Some Outcomes.too_large) (refused_by (sign_refusals g.table))) g) h
 
 -- by the signs a call is refused with the outcome of the check, nothing touched
-pub signs_refused : (g : Given) (k : ℕ) → over_limit g ≡ false → refused_by (sign_refusals g.table) ≡ some k
+pub signs_refused : (g : Given) (k : ℕ) → over_limit g ≡ false → refused_by (sign_refusals g.table) ≡ Some k
     → expanded g ≡ record { report = report k 0 0 0 0 0; lent = g.lent }
 unfolding expanded refused_by
 signs_refused g k h e =
-    ap (λ (x : Bool). answered (cond x (some Outcomes.too_large) (refused_by (sign_refusals g.table))) g) h ∙ ap (λ (x : Option ℕ). answered x g) e
+    ap (λ (x : Bool). answered (cond x (Some Outcomes.too_large) (refused_by (sign_refusals g.table))) g) h ∙ ap (λ (x : Option ℕ). answered x g) e

@@ -5,7 +5,7 @@ use native.Mathlib.Omega.{arith}
 use mathlib.Core.Path.{◌≡◌, refl}
 use mathlib.Core.Bool.{Bool, true, false, cond, ◌&&◌}
 use mathlib.Core.List.{List, [], ◌∷◌}
-use mathlib.Core.Option.{Option, none, some}
+use Rattle.std.specs.Prelude.{Option, None, Some}
 use lib.ListN.{length}
 use lib.Dec.{T as So, ltb}
 use lib.IntN.{ℤ}
@@ -54,9 +54,9 @@ module _ (busy : List ℕ) (list : List Bytes) (ds : List Definition) where
 
   -- arithmetic: 22, 23 and 24
   result_does : (op : Operation) (a b : Option ℤ) → Does list ds (result_of (of_operands op a b))
-  result_does op none b = to_fail tt
-  result_does op (some a) none = to_fail tt
-  result_does op (some a) (some b) = either does (divides op && is_zero b) (to_fail tt) (either does (in_range (exact op a b)) to_give (to_fail tt))
+  result_does op None b = to_fail tt
+  result_does op (Some a) None = to_fail tt
+  result_does op (Some a) (Some b) = either does (divides op && is_zero b) (to_fail tt) (either does (in_range (exact op a b)) to_give (to_fail tt))
     where
       does : Result → Type 0
       does r = Does list ds (result_of r)

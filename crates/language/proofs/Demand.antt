@@ -3,7 +3,7 @@ use Prim.Native.Nat.{ℕ, ◌≤◌}
 use native.Mathlib.Omega.{arith}
 use mathlib.Core.Path.{◌≡◌, refl, sym, ap, subst}
 use mathlib.Core.Bool.{not}
-use mathlib.Core.Option.{Option, none, some}
+use Rattle.std.specs.Prelude.{Option, None, Some}
 use lib.ListN.{length}
 use lib.Dec.{T as So, T_not}
 use Rattle.language.specs.Signs.{Language, language}
@@ -69,11 +69,11 @@ substitutes g price = go (refused_by (refusals g)) refl
     D = demand3 g price
 
     go : (r : Option ℕ) → refused_by (refusals g) ≡ r → Substitutes g (answered r g)
-    go (some k) h = record {
+    go (Some k) h = record {
       only = λ x. absurd (T_not (end_of_text k) (refused_with NoEnd (refusals_no_ends g) h) x);
       always = λ p. let z : ◌≡◌ {A = ℕ} 0 1 = cc in absurd (omega arith);
     }
-    go none h = record {
+    go None h = record {
       only = λ x. (e₀, (D e₀).0 (refl, x), refl, refl);
       always = λ p e a.
           let r = (D e).1 a in

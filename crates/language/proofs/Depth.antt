@@ -5,7 +5,7 @@ use native.Mathlib.Omega.{arith}
 use mathlib.Core.Path.{◌≡◌}
 use mathlib.Core.Bool.{Bool, true, false}
 use mathlib.Core.List.{List, [], ◌∷◌}
-use mathlib.Core.Option.{Option, none, some}
+use Rattle.std.specs.Prelude.{Option, None, Some}
 use lib.ListN.{length}
 use lib.Dec.{ltb}
 use Rattle.language.specs.Signs.{Bytes, Language, Meaning, copied, left_out, opens, separates, applies, fetches, unquotes, meaning}
@@ -63,8 +63,8 @@ module _ (ev ev' : Eval) (up : EvalBelow ev ev') (go go' : Go) (on : GoBelow go 
 
   number_below : (j : Option ℕ) (list : List Bytes) (c : Collecting) (r : Bytes) (h : Held)
       → Below (R.fetch_number ev go j list c r h) (R.fetch_number ev' go' j list c r h)
-  number_below none list c r h = same
-  number_below (some k) list c r h = supplied_below (ltb k (length list)) c (parameter k list) r h
+  number_below None list c r h = same
+  number_below (Some k) list c r h = supplied_below (ltb k (length list)) c (parameter k list) r h
 
   fetch_below : (G : Language) (src : Source) (c : Collecting) (b : ℕ) (r : Bytes) (h : Held)
       → Below (R.fetch ev go G src c b r h) (R.fetch ev' go' G src c b r h)
@@ -112,12 +112,12 @@ module _ (G : Language) where
   eval_below zero src c reading r x = unknown
   eval_below (suc d) src c reading r x = within_below (eval G d) (eval G (suc d)) (eval_below d) src c reading (length r) 0 r (fresh x)
 
-  ended_below : {r r' : Result} {e : End} → Below r r' → ended r ≡ some e → ended r' ≡ some e
+  ended_below : {r r' : Result} {e : End} → Below r r' → ended r ≡ Some e → ended r' ≡ Some e
   ended_below unknown p = let z : ◌≡◌ {A = ℕ} 0 1 = cc in absurd (omega arith)
   ended_below same p = p
 
   -- more depth never takes an end away
-  pub depth_more : (t : Bytes) (ds : List Definition) (d k : ℕ) (e : End) → substituted G d t ds ≡ some e → substituted G (d + k) t ds ≡ some e
+  pub depth_more : (t : Bytes) (ds : List Definition) (d k : ℕ) (e : End) → substituted G d t ds ≡ Some e → substituted G (d + k) t ds ≡ Some e
   unfolding substituted EvalBelow
   depth_more t ds d zero e p = rw (add-zero d) p
   depth_more t ds d (suc k) e p = rw (add-suc d k) (ended_below (eval_below (d + k) text no_call [] t (R.start ds)) (depth_more t ds d k e p))

@@ -4,7 +4,7 @@ use native.Mathlib.Omega.{arith}
 use mathlib.Core.Path.{◌≡◌, refl, sym, subst}
 use mathlib.Core.Bool.{Bool, true, false}
 use mathlib.Core.List.{List, [], ◌∷◌, ◌++◌}
-use mathlib.Core.Option.{Option, none, some}
+use Rattle.std.specs.Prelude.{Option, None, Some}
 use lib.ListN.{length, length-append}
 use lib.Dec.{ltb}
 use borrow.Author.Tests.{ltb-true, ltb-false}
@@ -253,8 +253,8 @@ module _ (L : Limits) (N : ℕ) where
       supplied false p r = refused' _ (S.with_bodies (S.with_rest r body ∷ bodies) s) (rest_kept t q cs body bodies w r i)
 
       number' : (j : Option ℕ) (r : Bytes) → Kept N (S.fetch_number L j body.list (S.with_bodies (S.with_rest r body ∷ bodies) s))
-      number' none r = refused' _ (S.with_bodies (S.with_rest r body ∷ bodies) s) (rest_kept t q cs body bodies w r i)
-      number' (some k) r = supplied (ltb k (length body.list)) (parameter k body.list) r
+      number' None r = refused' _ (S.with_bodies (S.with_rest r body ∷ bodies) s) (rest_kept t q cs body bodies w r i)
+      number' (Some k) r = supplied (ltb k (length body.list)) (parameter k body.list) r
 
       next' : (r : Bytes) → Kept N (S.fetch_in_body L G r body bodies s)
       next' [] = refused' _ s i

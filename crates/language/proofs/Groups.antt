@@ -6,7 +6,7 @@ use native.Mathlib.Omega.{arith}
 use mathlib.Core.Path.{◌≡◌, refl, sym, ap, ◌∙◌}
 use mathlib.Core.Bool.{Bool, true, false, cond, ◌&&◌, true≢false}
 use mathlib.Core.List.{List, [], ◌∷◌, ◌++◌}
-use mathlib.Core.Option.{none, some}
+use Rattle.std.specs.Prelude.{None, Some}
 use lib.ListN.{length, replicate}
 use lib.Dec.{eqb, ltb}
 use borrow.Author.Tests.{eqb-true, eqb-false, eq-eqb, ne_eqb, ltb-true, ltb-false, lt-ltb, le-ltb}
@@ -70,14 +70,14 @@ group_with_built_ins = refl
 
 -- what one group finds: behind a definition of another name, a built-in behind a definition, and no definition
 pub found_in_a_group :
-    (content_of (newest (ascii "ba") (of_group (group (ascii "ba")) standing)) ≡ some (defined (ascii "ba") (ascii "2")).content)
-    × (content_of (newest (ascii "IF") (of_group 15 standing)) ≡ some (built_in If))
-    × (content_of (newest (ascii "EDF") (of_group 15 standing)) ≡ none)
+    (content_of (newest (ascii "ba") (of_group (group (ascii "ba")) standing)) ≡ Some (defined (ascii "ba") (ascii "2")).content)
+    × (content_of (newest (ascii "IF") (of_group 15 standing)) ≡ Some (built_in If))
+    × (content_of (newest (ascii "EDF") (of_group 15 standing)) ≡ None)
 unfolding of_group newest same sum
 found_in_a_group = (refl, refl, refl)
 
 -- of a group that is not its own a lookup finds none
-pub not_in_another_group : content_of (newest (ascii "k") (of_group 15 standing)) ≡ none
+pub not_in_another_group : content_of (newest (ascii "k") (of_group 15 standing)) ≡ None
 unfolding of_group newest same sum
 not_in_another_group = refl
 

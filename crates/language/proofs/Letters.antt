@@ -4,7 +4,7 @@ use native.Mathlib.Omega.{arith}
 use mathlib.Core.Path.{◌≡◌, refl, sym, ◌∙◌, ap, subst}
 use mathlib.Core.Bool.{Bool, true, false, cond, ◌&&◌}
 use mathlib.Core.List.{List, [], ◌∷◌}
-use mathlib.Core.Option.{Option, none, some}
+use Rattle.std.specs.Prelude.{Option, None, Some}
 use mathlib.Core.Logic.{◌↔◌}
 use lib.ListN.{length}
 use lib.Dec.{leb, ltb}
@@ -114,10 +114,10 @@ letters_aside : (b : ℕ) → is_letter b ≡ false → parameter_number b ≡ p
 letters_aside b e = rw e refl
 
 -- before request One a letter stood for nothing
-nothing_before : (b : ℕ) → is_letter b ≡ true → parameter_digit b ≡ none
+nothing_before : (b : ℕ) → is_letter b ≡ true → parameter_digit b ≡ None
 nothing_before b e = go (leb 97 b) refl e (leb 48 b) (leb b 57) refl
   where
-    go : (x : Bool) → leb 97 b ≡ x → x && leb b 122 ≡ true → (y z : Bool) → leb b 57 ≡ z → cond (y && z) (some (b - 48)) none ≡ none
+    go : (x : Bool) → leb 97 b ≡ x → x && leb b 122 ≡ true → (y z : Bool) → leb b 57 ≡ z → cond (y && z) (Some (b - 48)) None ≡ None
     go false p e y z q = clash cc
     go true p e true true q = absurd (omega (arith, leb-true 97 b p, leb-true b 57 q))
     go true p e true false q = refl
@@ -286,7 +286,7 @@ module _ (T : Table) (t : Bytes) (ds : List Definition) where
 
     -- and substitution comes to the ends that it came to.
     pub substitution_as_before : (e : End)
-        → ((d : ℕ) × (substituted (language T) d t ds ≡ some e)) ↔ ((d : ℕ) × (substituted (digits_only T) d t ds ≡ some e))
+        → ((d : ℕ) × (substituted (language T) d t ds ≡ Some e)) ↔ ((d : ℕ) × (substituted (digits_only T) d t ds ≡ Some e))
     substitution_as_before e =
         let now = agreement (language T) t ds e in
         let before = agreement (digits_only T) t ds e in

@@ -6,7 +6,7 @@ use native.Mathlib.Nat.{zero-add, suc-add}
 use mathlib.Core.Path.{◌≡◌, refl, sym, ◌∙◌, ap}
 use mathlib.Core.Bool.{Bool, true, false, cond, not}
 use mathlib.Core.List.{List, [], ◌∷◌, ◌++◌, append-nil, append_assoc}
-use mathlib.Core.Option.{Option, none, some}
+use Rattle.std.specs.Prelude.{Option, None, Some}
 use lib.ListN.{length, length-append}
 use lib.Dec.{T as So, leb→le, nleb→lt, ltb}
 use Rattle.language.specs.Signs.{Bytes, Language, Meaning, copied, left_out, opens, separates, applies, fetches, unquotes, meaning}
@@ -291,8 +291,8 @@ module _ (L : Limits) where
 
   -- `~` in a body, by what the byte after it stands for
   number_alike : (k : Option ℕ) (list : List Bytes) (s : State) → Alike s.standing (S.fetch_number L k list s) (S.fetch_number no_limits k list s)
-  number_alike none list s = kept refl tt
-  number_alike (some k) list s = supplied_alike (ltb k (length list)) (parameter k list) s
+  number_alike None list s = kept refl tt
+  number_alike (Some k) list s = supplied_alike (ltb k (length list)) (parameter k list) s
 
   -- `~` in a body
   fetch_in_body_alike : (G : Language) (r : Bytes) (body : Body) (bodies : List Body) (s : State)

@@ -4,7 +4,7 @@ use native.Mathlib.Omega.{arith}
 use mathlib.Core.Path.{◌≡◌, refl, sym, ap, subst, ◌∙◌}
 use mathlib.Core.Bool.{Bool, true, false, cond, true≢false}
 use mathlib.Core.List.{List, [], ◌∷◌, ◌++◌}
-use mathlib.Core.Option.{Option, none, some}
+use Rattle.std.specs.Prelude.{Option, None, Some}
 use lib.ListN.{length, take, length-append, take-append-drop}
 use lib.Dec.{eqb, ltb}
 use borrow.Author.Tests.{ltb-true, ltb-false, lt-ltb, le-ltb, eqb-true}
@@ -56,10 +56,10 @@ upper (x ∷ xs) ds zs (here q) h e = here {ds = xs ++ zs} (omega (arith, length
 upper (x ∷ xs) ds zs (there p) h e = there (upper xs ds zs p h e)
 
 -- the number afterwards: the same below those that go, less by their count above them
-placed : (a b : ℕ) (P : ℕ → Type 0) {k j : ℕ} → (k < a → P k) → (b ≤ k → P (k - (b - a))) → number_after (a, b) k ≡ some j → P j
+placed : (a b : ℕ) (P : ℕ → Type 0) {k j : ℕ} → (k < a → P k) → (b ≤ k → P (k - (b - a))) → number_after (a, b) k ≡ Some j → P j
 placed a b P {k} {j} old new =
-    by (λ o. o ≡ some j → P j) (ltb k a) (λ t e. let q : k ≡ j = cc in subst P q (old (ltb-true k a t)))
-    (λ t. by (λ o. o ≡ some j → P j) (ltb k b) (λ u e. let z : ◌≡◌ {A = ℕ} 0 1 = cc in absurd (omega arith))
+    by (λ o. o ≡ Some j → P j) (ltb k a) (λ t e. let q : k ≡ j = cc in subst P q (old (ltb-true k a t)))
+    (λ t. by (λ o. o ≡ Some j → P j) (ltb k b) (λ u e. let z : ◌≡◌ {A = ℕ} 0 1 = cc in absurd (omega arith))
     (λ u e. let q : k - (b - a) ≡ j = cc in subst P q (new (ltb-false k b u))))
 
 -- What stands, and what goes -----------------------------------------------------------------------------------------
@@ -89,7 +89,7 @@ stack {ds} {ds₁} x y same becomes r = record { count = ap suc r.count; kept = 
 
 -- a scan from the definitions ds to ds₁, where those from g.0 up to g.1 go: locked ones are kept, and each comes from one or is number m - 1
 record Passes (g : ℕ × ℕ) (ds : List Definition) (m : ℕ) (ds₁ : List Definition) : Type 0 where
-  keeps : {k j : ℕ} {d : Definition} → Numbered d k ds → is_locked d.content ≡ true → number_after g k ≡ some j → Numbered d j ds₁
+  keeps : {k j : ℕ} {d : Definition} → Numbered d k ds → is_locked d.content ≡ true → number_after g k ≡ Some j → Numbered d j ds₁
   makes : {j : ℕ} {e : Definition} → Numbered e j ds₁ → ComesFrom g ds m j e
 
 -- the newer and the older are all
@@ -106,13 +106,13 @@ passes a b {ds} {ds₁} stays order within {m} = record { keeps = λ p l n. keep
     B : length (oldest b ds₁) ≡ b
     B = length-oldest b ds₁ within
 
-    keep : {d : Definition} {k j : ℕ} → Numbered d k ds₁ → number_after (a, b) k ≡ some j → Numbered d j (without a b ds₁)
+    keep : {d : Definition} {k j : ℕ} → Numbered d k ds₁ → number_after (a, b) k ≡ Some j → Numbered d j (without a b ds₁)
     keep {d} {k} p n =
         let half : (c : ℕ) → Numbered d k (newer c ds₁ ++ oldest c ds₁) = λ c. subst (Numbered d k) (sym (halves c ds₁)) p in
         placed a b (λ i. Numbered d i (without a b ds₁)) (λ h. behind (newer b ds₁) (lower (newer a ds₁) (half a) (omega (arith, A))))
         (λ h. upper (newer b ds₁) (oldest b ds₁) (oldest a ds₁) (half b) (omega (arith, B)) (omega (arith, A, B))) n
 
-    come : {e : Definition} {k j : ℕ} → number_after (a, b) k ≡ some j → Numbered e k ds₁ → ComesFrom (a, b) ds m j e
+    come : {e : Definition} {k j : ℕ} → number_after (a, b) k ≡ Some j → Numbered e k ds₁ → ComesFrom (a, b) ds m j e
     come q p = let f = stays.from p in stood f.1 q f.2
 
     make : {e : Definition} {j : ℕ} → Numbered e j (without a b ds₁) → (t : Bool) → ltb j a ≡ t → ComesFrom (a, b) ds m j e
@@ -129,8 +129,8 @@ passes a b {ds} {ds₁} stays order within {m} = record { keeps = λ p l n. keep
 -- where the list of a built-in's call goes, the oldest a are left
 passes_oldest : (a : ℕ) {ds ds₁ : List Definition} → Stays ds ds₁ → a ≤ length ds → {m : ℕ} → Passes (a, length ds) ds m (oldest a ds₁)
 passes_oldest a {ds} {ds₁} stays h {m} =
-    let none : length ds₁ - length ds ≡ 0 = omega (arith, stays.count) in
-    subst (λ (i : ℕ). Passes (a, length ds) ds m (take i ds₁ ++ oldest a ds₁)) none (passes a (length ds) stays h (omega (arith, stays.count)))
+    let None : length ds₁ - length ds ≡ 0 = omega (arith, stays.count) in
+    subst (λ (i : ℕ). Passes (a, length ds) ds m (take i ds₁ ++ oldest a ds₁)) None (passes a (length ds) stays h (omega (arith, stays.count)))
 
 -- where nothing goes
 passes_all : (ds : List Definition) {m : ℕ} → Passes (length ds, length ds) ds m ds
@@ -326,8 +326,8 @@ module _ (L : Limits) (W : Type 0) where
       supplied false p s = ended refl
 
       number' : (k : Option ℕ) (s : State) → Kept W s (S.fetch_number L k B.list s)
-      number' none s = ended refl
-      number' (some k) s = supplied (ltb k (length B.list)) (parameter k B.list) s
+      number' None s = ended refl
+      number' (Some k) s = supplied (ltb k (length B.list)) (parameter k B.list) s
 
       go : (r : Bytes) → Kept W (S.with_bodies (B ∷ Bs) s) (S.fetch_in_body L G r B Bs (S.with_bodies (B ∷ Bs) s))
       go [] = ended refl
@@ -383,7 +383,7 @@ scan_passes L G s = from_keeps L (Ordered s) G s.bodies s.text s (λ w. w)
 
 -- of one scan that goes on
 pub scan_keeps : (L : Limits) (G : Language) {N : ℕ} {s s₁ : State} → Invariant N s → S.scan L G s ≡ next s₁
-    → {k j : ℕ} {d : Definition} → Numbered d k s.standing.definitions → is_locked d.content ≡ true → number_after (going s s₁) k ≡ some j
+    → {k j : ℕ} {d : Definition} → Numbered d k s.standing.definitions → is_locked d.content ≡ true → number_after (going s s₁) k ≡ Some j
     → Numbered d j s₁.standing.definitions
 scan_keeps L G {s = s} i e p l n = (on_next (scan_passes L G s) e i.framed).keeps p l n
 

@@ -5,7 +5,7 @@ use native.Mathlib.Omega.{arith}
 use mathlib.Core.Path.{◌≡◌, refl, sym, ap, ◌∙◌}
 use mathlib.Core.Bool.{Bool, true, false, cond}
 use mathlib.Core.List.{List, [], ◌∷◌}
-use mathlib.Core.Option.{Option, none, some}
+use Rattle.std.specs.Prelude.{Option, None, Some}
 use lib.ListN.{length}
 use lib.Dec.{eqb, ltb}
 use borrow.Author.Tests.{lt-ltb, ltb-true}
@@ -109,8 +109,8 @@ module _ (L : Limits) where
 
   -- the parameter that is fetched
   number_names : (k : Option ℕ) (list : List Bytes) (s : State) → StateNames s → Kept (S.fetch_number L k list s)
-  number_names none list s p = ended p
-  number_names (some k) list s p = go (ltb k (length list))
+  number_names None list s p = ended p
+  number_names (Some k) list s p = go (ltb k (length list))
     where
       go : (o : Bool) → Kept (S.fetch_supplied L o (parameter k list) s)
       go true = put_names s.calls (parameter k list) s p
@@ -198,7 +198,7 @@ module _ (L : Limits) (G : Language) (t : Bytes) {ds : List Definition} (D : Hav
       go (stop e) (ended p) = p
 
 -- nor an end of substitution.
-pub substituted_names : (G : Language) (t : Bytes) {ds : List Definition} → HaveNames ds → (d : ℕ) (e : End) → substituted G d t ds ≡ some e
+pub substituted_names : (G : Language) (t : Bytes) {ds : List Definition} → HaveNames ds → (d : ℕ) (e : End) → substituted G d t ds ≡ Some e
     → HaveNames e.definitions
 substituted_names G t {ds} D d e p = let r = (agreement G t ds e).1 (d, p) in on_stop (kept no_limits G t D r.0) r.1
 

@@ -7,7 +7,7 @@ use mathlib.Core.Path.{◌≡◌, refl, sym}
 use mathlib.Core.Logic.{inl, inr}
 use mathlib.Core.Bool.{Bool, true, false, true≢false}
 use mathlib.Core.List.{List, [], ◌∷◌, ◌++◌}
-use mathlib.Core.Option.{Option, none, some}
+use Rattle.std.specs.Prelude.{Option, None, Some}
 use lib.ListN.{length, drop, get_or}
 use lib.Dec.{ltb, eqb}
 use lib.IntN.{pos}
@@ -255,8 +255,8 @@ module _ (L : Limits) where
 
   -- the parameter that is fetched
   number_octets : (k : Option ℕ) {list : List Bytes} (s : State) → All Octets list → HoldsOctets s → Kept (S.fetch_number L k list s)
-  number_octets none s P g = ending _ g
-  number_octets (some k) {list} s P g = go (ltb k (length list))
+  number_octets None s P g = ending _ g
+  number_octets (Some k) {list} s P g = go (ltb k (length list))
     where
       go : (o : Bool) → Kept (S.fetch_supplied L o (parameter k list) s)
       go true = put_octets s g.calls (all_get_d [] empty P k) g

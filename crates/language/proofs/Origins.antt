@@ -6,7 +6,7 @@ use native.Mathlib.Nat.{le_refl, le_trans}
 use mathlib.Core.Path.{◌≡◌, refl, sym, ap, subst, ◌∙◌}
 use mathlib.Core.Bool.{Bool, true, false, cond}
 use mathlib.Core.List.{List, [], ◌∷◌, ◌++◌, append-nil, append_assoc, map-append}
-use mathlib.Core.Option.{Option, none, some}
+use Rattle.std.specs.Prelude.{Option, None, Some}
 use mathlib.Core.Logic.{◌↔◌}
 use lib.ListN.{length, take, drop, length-drop}
 use lib.Seq.{drop-drop}
@@ -104,8 +104,8 @@ module _ (L : Limits) where
       go (B ∷ Bs) = stays _ s
 
   number_adds : (k : Option ℕ) (list : List Bytes) (s : State) → Comes (Origins.fetching_number k list s) s (S.fetch_number L k list s)
-  number_adds none list s = stays _ s
-  number_adds (some k) list s = go (ltb k (length list))
+  number_adds None list s = stays _ s
+  number_adds (Some k) list s = go (ltb k (length list))
     where
       go : (o : Bool) → Comes (puts s.calls Origins.fetched (parameter k list)) s (S.fetch_supplied L o (parameter k list) s)
       go true = put_adds s.calls _ (parameter k list) s
@@ -127,8 +127,8 @@ module _ (L : Limits) where
           s₁ = S.with_bodies (S.with_rest r B ∷ Bs) s
 
           number : (k : Option ℕ) → Comes (Origins.fetching_number k B.list s) s (S.fetch_number L k B.list s₁)
-          number none = like refl refl refl (stays _ s₁)
-          number (some k) = like refl refl refl (number_adds (some k) B.list s₁)
+          number None = like refl refl refl (stays _ s₁)
+          number (Some k) = like refl refl refl (number_adds (Some k) B.list s₁)
 
   unquote_adds : (Bs : List Body) (cs : List Call) (b rule : ℕ) (s : State) → s.calls ≡ cs → Comes (puts cs rule (b ∷ [])) s (S.unquote L Bs cs b s)
   unquote_adds [] [] b rule s e = stays _ s
@@ -147,8 +147,8 @@ module _ (L : Limits) where
 
 -- what is written by rule 1 has a property
 abbrev IfText : (Bytes → Type 0) → Option Writes → Type 0
-IfText P none = Unit {0}
-IfText P (some w) = w.rule ≡ Origins.copied_from_text → P w.bytes
+IfText P None = Unit {0}
+IfText P (Some w) = w.rule ≡ Origins.copied_from_text → P w.bytes
 
 module _ (P : Bytes → Type 0) where
   if_puts : (cs : List Call) (rule : ℕ) (bs : Bytes) → (rule ≡ Origins.copied_from_text → P bs) → IfText P (puts cs rule bs)
@@ -183,8 +183,8 @@ module _ (P : Bytes → Type 0) where
   if_applied (c ∷ cs) s = if_found (newest (parameter 0 (list_of c)) s.standing.definitions) cs (deed (S.reading s.bodies) (list_of c) s.standing.definitions)
 
   if_number : (k : Option ℕ) (list : List Bytes) (s : State) → IfText P (Origins.fetching_number k list s)
-  if_number none list s = tt
-  if_number (some k) list s = if_puts s.calls Origins.fetched (parameter k list) (λ e. absurd (omega arith))
+  if_number None list s = tt
+  if_number (Some k) list s = if_puts s.calls Origins.fetched (parameter k list) (λ e. absurd (omega arith))
 
   module _ (b : ℕ) (s : State) (p : Origins.copied_from s.bodies ≡ Origins.copied_from_text → P (b ∷ [])) where
     if_copied : IfText P (Origins.copies b s)
@@ -238,8 +238,8 @@ module _ (G : Language) (k : ℕ) (t : Bytes) (s : State) where
   fetching_counted (B ∷ Bs) b = go B.rest
     where
       number : (n : Option ℕ) → Origins.fetching_number n B.list counted ≡ Origins.fetching_number n B.list s
-      number none = refl
-      number (some n) = refl
+      number None = refl
+      number (Some n) = refl
 
       go : (r : Bytes) → Origins.fetching_in G r B.list counted ≡ Origins.fetching_in G r B.list s
       go [] = refl
@@ -283,14 +283,14 @@ module _ (L : Limits) (G : Language) (s : State) where
   text_ends zero (c ∷ cs) = ended (refuses _)
   text_ends zero [] = ended (refuses _)
 
-  body_ends : (own : Bool) (B : Body) (Bs : List Body) → Comes L none (S.counting 0 s) (S.body_end L own B Bs (S.counting 0 s))
+  body_ends : (own : Bool) (B : Body) (Bs : List Body) → Comes L None (S.counting 0 s) (S.body_end L own B Bs (S.counting 0 s))
   body_ends true B Bs = stays L _ (S.counting 0 s)
   body_ends false B Bs = goes_on (record { output = none_adds L s; read = refl; text = refl })
 
   -- nothing that is written in a body is written by rule 1
   unread : (w : Option Writes) → IfText (λ bs. ⊥) w → Copied 0 w
-  unread none p = tt
-  unread (some w) p = λ e. absurd (p e)
+  unread None p = tt
+  unread (Some w) p = λ e. absurd (p e)
 
   from_writes : (Bs : List Body) → s.bodies ≡ Bs → (t : Bytes) → s.text ≡ t → writes G s ≡ Origins.taken_from G Bs t s
       → Leads (Scanned G s) (Refuses s) (S.from L G Bs t s)
@@ -369,13 +369,13 @@ module _ (L : Limits) (G : Language) where
   added s (goes_on {s = s₁} a) = a.output ∙ ap (λ (y : Bytes). s.standing.output ++ y) (go (writes G s))
     where
       go : (w : Option Writes) → bytes_in w ≡ bytes_of (scan_origins w (next s₁))
-      go none = refl
-      go (some w) = sym (each_bytes s₁.standing.read w.rule w.bytes)
+      go None = refl
+      go (Some w) = sym (each_bytes s₁.standing.read w.rule w.bytes)
   added s (ended {e} a) = a.output ∙ sym (append-nil s.standing.output) ∙ ap (λ (y : Bytes). s.standing.output ++ y) (go (writes G s))
     where
       go : (w : Option Writes) → [] ≡ bytes_of (scan_origins w (stop e))
-      go none = refl
-      go (some w) = refl
+      go None = refl
+      go (Some w) = refl
 
   left_out_lem : (n : ℕ) (x : Step) → (S.end_of (S.scans L G n x)).output ≡ (S.end_of x).output ++ bytes_of (origins_from L G n x)
   unfolding S.scans origins_from
@@ -390,8 +390,8 @@ module _ (L : Limits) (G : Language) where
       ∙ ap (λ (y : Bytes). s.standing.output ++ y) (sym (map-append (λ (o : Origin). o.byte) os (origins_from L G n x)))
 
   pub none_at_end : (w : Option Writes) (e : End) → scan_origins w (stop e) ≡ []
-  none_at_end none e = refl
-  none_at_end (some w) e = refl
+  none_at_end None e = refl
+  none_at_end (Some w) e = refl
 
   pub origins_stop : (n : ℕ) (e : End) → origins_from L G n (stop e) ≡ []
   unfolding origins_from
@@ -406,8 +406,8 @@ module _ (L : Limits) (G : Language) where
     where
       on : (s₁ : State) → s.standing.read ≤ s₁.standing.read → {high : ℕ} → Rising s₁.standing.read (origins_from L G n (next s₁)) high
           → (w : Option Writes) → Rising s.standing.read (scan_origins w (next s₁) ++ origins_from L G n (next s₁)) high
-      on s₁ below p none = rising_from below p
-      on s₁ below p (some w) = each_rising s₁.standing.read w.rule w.bytes below p
+      on s₁ below p None = rising_from below p
+      on s₁ below p (Some w) = each_rising s₁.standing.read w.rule w.bytes below p
 
       go : {x : Step} → Leads (Scanned G s) (Refuses s) x → {high : ℕ} → Rising (S.end_of x).read (origins_from L G n x) high
           → Rising s.standing.read (scan_origins (writes G s) x ++ origins_from L G n x) high
@@ -436,8 +436,8 @@ module _ (L : Limits) (G : Language) where
     where
       on : (s₁ : State) → s₁.standing.read ≡ s.standing.read + 1
           → (w : Option Writes) → All (λ o. s.standing.read + 1 ≤ o.read) (scan_origins w (next s₁) ++ origins_from L G n (next s₁))
-      on s₁ r none = rising_least (omega arith) (rising n (next s₁))
-      on s₁ r (some w) = rising_least (omega arith) (each_rising s₁.standing.read w.rule w.bytes (le_refl s₁.standing.read) (rising n (next s₁)))
+      on s₁ r None = rising_least (omega arith) (rising n (next s₁))
+      on s₁ r (Some w) = rising_least (omega arith) (each_rising s₁.standing.read w.rule w.bytes (le_refl s₁.standing.read) (rising n (next s₁)))
 
       go : {x : Step} → Leads (Scanned G s) (Refuses s) x → All (λ o. s.standing.read + 1 ≤ o.read) (scan_origins (writes G s) x ++ origins_from L G n x)
       go (goes_on {s = s₁} a) = on s₁ (let t = a.from_text e in let r = a.read in omega arith) (writes G s)
@@ -451,8 +451,8 @@ module _ (L : Limits) (G : Language) where
     where
       own : (s₁ : State) (a : Scanned G s s₁) (w : Option Writes) → IfText (λ bs. (bs ≡ take 1 s.text) × (length bs ≡ 1) × (a.taken ≡ 1)) w
           → All (FromText text) (scan_origins w (next s₁))
-      own s₁ a none p = empty
-      own s₁ a (some w) p = each_text text s₁.standing.read w.rule w.bytes λ e.
+      own s₁ a None p = empty
+      own s₁ a (Some w) p = each_text text s₁.standing.read w.rule w.bytes λ e.
           let q = p e in
           let one = q.2 in
           let r = a.read in
@@ -500,25 +500,25 @@ module _ (g : Given) where
 
 module _ (g : GivenNumbers) where
   -- what is refused as the ordinary call is, is so whatever the numbers are,
-  pub refused_as : (k : ℕ) → refused_by (refusals g.given) ≡ some k → expanded_origins g ≡ returned_with (untouched k g.given.lent) g.numbers
+  pub refused_as : (k : ℕ) → refused_by (refusals g.given) ≡ Some k → expanded_origins g ≡ returned_with (untouched k g.given.lent) g.numbers
   unfolding expanded_origins
   refused_as k e = ap (λ (r : Option ℕ). answered_with r g) (behind_some (refusals g.given) (numbers_refusals g) k e)
 
   -- and 35 comes behind,
-  pub refused_short : refused_by (refusals g.given) ≡ none → short_numbers g ≡ true
+  pub refused_short : refused_by (refusals g.given) ≡ None → short_numbers g ≡ true
       → expanded_origins g ≡ returned_with (untouched Outcomes.numbers_too_short g.given.lent) g.numbers
   unfolding expanded_origins refused_by
   refused_short e short = rw (behind_none (refusals g.given) (numbers_refusals g) e, short)
 
   -- and nothing else.
-  pub accepted_as : refused_by (refusals_with g) ≡ none ↔ ((refused_by (refusals g.given) ≡ none) × (short_numbers g ≡ false))
+  pub accepted_as : refused_by (refusals_with g) ≡ None ↔ ((refused_by (refusals g.given) ≡ None) × (short_numbers g ≡ false))
   unfolding refused_by
   accepted_as = (
     λ e. let r = both_none (refusals g.given) (numbers_refusals g) e in (r.0, long (short_numbers g) r.1),
     λ p. behind_none (refusals g.given) (numbers_refusals g) p.0 ∙ rw p.1,
   )
     where
-      long : (t : Bool) → cond t (some Outcomes.numbers_too_short) none ≡ none → t ≡ false
+      long : (t : Bool) → cond t (Some Outcomes.numbers_too_short) None ≡ None → t ≡ false
       long true p = let z : ◌≡◌ {A = ℕ} 0 1 = cc in absurd (omega arith)
       long false p = refl
 
@@ -528,8 +528,8 @@ unfolding expanded_origins expanded
 ordinary g short = go (refused_by (refusals g.given)) refl
   where
     go : (r : Option ℕ) → refused_by (refusals g.given) ≡ r → (answered_with (refused_by (refusals_with g)) g).returned ≡ answered r g.given
-    go (some k) e = rw (behind_some (refusals g.given) (numbers_refusals g) k e)
-    go none e = rw ((accepted_as g).1 (e, short))
+    go (Some k) e = rw (behind_some (refusals g.given) (numbers_refusals g) k e)
+    go None e = rw ((accepted_as g).1 (e, short))
 
 -- and demand 3 holds of it.
 pub origins-expanded : (g : GivenNumbers) {x : ReturnedNumbers} → definitions_price g.given.definitions ≤ length g.given.lent.cells

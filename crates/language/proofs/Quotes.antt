@@ -6,7 +6,8 @@ use native.Mathlib.Nat.{mod-lt}
 use mathlib.Core.Path.{◌≡◌, refl, sym, ◌∙◌, ap, subst}
 use mathlib.Core.Bool.{Bool, true, false, cond, ◌&&◌}
 use mathlib.Core.List.{List, [], ◌∷◌, ◌++◌}
-use mathlib.Core.Option.{Option, none, some, bind}
+use Rattle.std.specs.Prelude.{Option, None, Some}
+use Rattle.std.specs.Prelude.{option_and_then}
 use lib.ListN.{length}
 use lib.Dec.{leb, ltb, eqb}
 use lib.IntN.{ℤ, pos, negsuc}
@@ -51,7 +52,7 @@ ReservedPlain T = (b : ℕ) → is_reserved b ≡ true → sign_of T b ≡ plain
 -- Depths -------------------------------------------------------------------------------------------------------------
 
 -- a depth that is lost is no depth
-pub none_some : {n : ℕ} → none ≡ some n → ⊥
+pub none_some : {n : ℕ} → None ≡ Some n → ⊥
 none_some e = let z : ◌≡◌ {A = ℕ} 0 1 = cc in omega arith
 
 -- a test that fails does not pass
@@ -60,29 +61,29 @@ false-true e = let z : ◌≡◌ {A = ℕ} 0 1 = cc in omega arith
 
 module _ (T : Table) where
   -- what is read behind bytes is read from the depth after them
-  depth_append : (q k : ℕ) (a b : Bytes) → depth_after T q a ≡ some k → depth_after T q (a ++ b) ≡ depth_after T k b
-  unfolding depth_after bind
+  depth_append : (q k : ℕ) (a b : Bytes) → depth_after T q a ≡ Some k → depth_after T q (a ++ b) ≡ depth_after T k b
+  unfolding depth_after
   depth_append q k [] b e = let h : q ≡ k = cc in rw h
   depth_append q k (x ∷ a) b e = go (depth_by (sign_of T x) q) (λ m. depth_append m k a b) e
     where
-      go : (d : Option ℕ) → ((m : ℕ) → depth_after T m a ≡ some k → depth_after T m (a ++ b) ≡ depth_after T k b)
-          → bind d (λ m. depth_after T m a) ≡ some k → bind d (λ m. depth_after T m (a ++ b)) ≡ depth_after T k b
-      go none f e = absurd (none_some e)
-      go (some m) f e = f m e
+      go : (d : Option ℕ) → ((m : ℕ) → depth_after T m a ≡ Some k → depth_after T m (a ++ b) ≡ depth_after T k b)
+          → option_and_then (λ m. depth_after T m a) d ≡ Some k → option_and_then (λ m. depth_after T m (a ++ b)) d ≡ depth_after T k b
+      go None f e = absurd (none_some e)
+      go (Some m) f e = f m e
 
   -- the depth after one byte
   depth_one : (q b : ℕ) → depth_after T q (b ∷ []) ≡ depth_by (sign_of T b) q
-  unfolding depth_after bind
+  unfolding depth_after
   depth_one q b = go (depth_by (sign_of T b) q)
     where
-      go : (d : Option ℕ) → bind d some ≡ d
-      go none = refl
-      go (some k) = refl
+      go : (d : Option ℕ) → option_and_then Some d ≡ d
+      go None = refl
+      go (Some k) = refl
 
   -- a plain byte leaves the depth
   depth_plain : (q b : ℕ) (bs : Bytes) → sign_of T b ≡ plain → depth_after T q (b ∷ bs) ≡ depth_after T q bs
-  unfolding depth_after bind
-  depth_plain q b bs e = ap (λ (g : Sign). bind (depth_by g q) (λ k. depth_after T k bs)) e
+  unfolding depth_after
+  depth_plain q b bs e = ap (λ (g : Sign). option_and_then (λ k. depth_after T k bs) (depth_by g q)) e
 
   -- an empty string
   matched-empty : Matched T []
@@ -90,19 +91,19 @@ module _ (T : Table) where
   matched-empty = refl
 
   -- where nothing is left to read, nothing is open
-  depth_empty : (q k : ℕ) → depth_after T q [] ≡ some k → q ≡ k
+  depth_empty : (q k : ℕ) → depth_after T q [] ≡ Some k → q ≡ k
   unfolding depth_after
   depth_empty q k e = cc
 
 -- a byte with sign g that is read at depth q leads to depth d, and what that is in what is collected, by its meaning
 data Means (g : Sign) : ℕ → Option ℕ → Meaning → Type 0 where
-  copying : {q k : ℕ} → depth_by g (pred q) ≡ some (pred k) → Means g q (some k) (copied k)
-  leaving : {q k : ℕ} → pred q ≡ pred k → Means g q (some k) (left_out k)
-  opening : Means g 0 (some 0) opens
-  separating : depth_by g 0 ≡ some 0 → Means g 0 (some 0) separates
-  applying : depth_by g 0 ≡ some 0 → Means g 0 (some 0) applies
-  fetching : depth_by g 0 ≡ some 0 → Means g 0 (some 0) fetches
-  unquoting : Means g 0 none unquotes
+  copying : {q k : ℕ} → depth_by g (pred q) ≡ Some (pred k) → Means g q (Some k) (copied k)
+  leaving : {q k : ℕ} → pred q ≡ pred k → Means g q (Some k) (left_out k)
+  opening : Means g 0 (Some 0) opens
+  separating : depth_by g 0 ≡ Some 0 → Means g 0 (Some 0) separates
+  applying : depth_by g 0 ≡ Some 0 → Means g 0 (Some 0) applies
+  fetching : depth_by g 0 ≡ Some 0 → Means g 0 (Some 0) fetches
+  unquoting : Means g 0 None unquotes
 
 -- the meaning of every sign fits, outside of quotes and inside
 means_outside : (g : Sign) → Means g 0 (depth_by g 0) (outside g)
@@ -195,16 +196,16 @@ module _ (T : Table) where
 
   module _ (plainly : ReservedPlain T) where
     -- a byte that stands for a parameter is no sign
-    number_plain : (b k : ℕ) → parameter_number b ≡ some k → sign_of T b ≡ plain
+    number_plain : (b k : ℕ) → parameter_number b ≡ Some k → sign_of T b ≡ plain
     number_plain b k = by_letter (leb 97 b) refl (leb b 122) refl
       where
-        by_digit : (x : Bool) → leb 48 b ≡ x → (y : Bool) → leb b 57 ≡ y → cond (x && y) (some (b - 48)) none ≡ some k → sign_of T b ≡ plain
+        by_digit : (x : Bool) → leb 48 b ≡ x → (y : Bool) → leb b 57 ≡ y → cond (x && y) (Some (b - 48)) None ≡ Some k → sign_of T b ≡ plain
         by_digit true p true p' e = plainly b (digit_reserved b (leb-true 48 b p) (leb-true b 57 p'))
         by_digit true p false p' e = absurd (none_some e)
         by_digit false p y p' e = absurd (none_some e)
 
         by_letter : (x : Bool) → leb 97 b ≡ x → (y : Bool) → leb b 122 ≡ y
-            → cond (x && y) (some (b - 97 + 10)) (parameter_digit b) ≡ some k → sign_of T b ≡ plain
+            → cond (x && y) (Some (b - 97 + 10)) (parameter_digit b) ≡ Some k → sign_of T b ≡ plain
         by_letter true p true p' e = plainly b (letter_reserved b (leb-true 97 b p) (leb-true b 122 p'))
         by_letter true p false p' e = by_digit (leb 48 b) refl (leb b 57) refl e
         by_letter false p y p' e = by_digit (leb 48 b) refl (leb b 57) refl e
@@ -232,9 +233,9 @@ module _ (T : Table) where
 
     -- arithmetic gives a decimal or one of its own outcomes
     result_matches : (op : Operation) (a b : Option ℤ) → DeedMatches (result_of (of_operands op a b))
-    result_matches op none b = refl
-    result_matches op (some a) none = refl
-    result_matches op (some a) (some b) =
+    result_matches op None b = refl
+    result_matches op (Some a) None = refl
+    result_matches op (Some a) (Some b) =
         either given (divides op && is_zero b) refl (either given (in_range (exact op a b)) (shortest-matched (exact op a b)) refl)
       where
         given : Result → Type 0
@@ -289,24 +290,24 @@ Keeps T rule s = QuotesMatch T s → Kept T s.standing.output (rule s)
 
 -- the bodies when the byte taken from the innermost leads to depth d, which is none only in the text
 abbrev BodiesLeft : Table → Option ℕ → List Body → Type 0
-BodiesLeft T none [] = Unit {0}
-BodiesLeft T none (B ∷ Bs) = ⊥
-BodiesLeft T (some k) Bs = Innermost (BodyMatches T) k Bs
+BodiesLeft T None [] = Unit {0}
+BodiesLeft T None (B ∷ Bs) = ⊥
+BodiesLeft T (Some k) Bs = Innermost (BodyMatches T) k Bs
 
 module _ (T : Table) where
   -- a state from its parts
   matches : {t : Bytes} {q : ℕ} {cs : List Call} {Bs : List Body} {w : Standing}
-      → Innermost (CallMatches T) q cs → depth_after T 0 w.output ≡ some (depth_written q cs)
+      → Innermost (CallMatches T) q cs → depth_after T 0 w.output ≡ Some (depth_written q cs)
       → Innermost (BodyMatches T) q Bs → All (ValueMatches T) w.definitions → QuotesMatch T (state_of t q cs Bs w)
   matches C O R D = record { calls = C; output = O; bodies = R; values = D }
 
   -- outside of quotes the output is matched, whether a call is open or not
-  output_matches : (out : Bytes) (cs : List Call) → depth_after T 0 out ≡ some (depth_written 0 cs) → Matched T out
+  output_matches : (out : Bytes) (cs : List Call) → depth_after T 0 out ≡ Some (depth_written 0 cs) → Matched T out
   output_matches out [] O = O
   output_matches out (c ∷ cs) O = O
 
   -- and back
-  matches_output : (out : Bytes) (cs : List Call) → Matched T out → depth_after T 0 out ≡ some (depth_written 0 cs)
+  matches_output : (out : Bytes) (cs : List Call) → Matched T out → depth_after T 0 out ≡ Some (depth_written 0 cs)
   matches_output out [] O = O
   matches_output out (c ∷ cs) O = O
 
@@ -315,19 +316,19 @@ module _ (T : Table) where
   list_matches c m = all_append m.ended (with m.hand empty)
 
   -- what is left of the bodies when a byte is taken from the innermost
-  taken : (q b : ℕ) (r : Bytes) (B : Body) (Bs : List Body) → depth_after T q (b ∷ r) ≡ some 0
+  taken : (q b : ℕ) (r : Bytes) (B : Body) (Bs : List Body) → depth_after T q (b ∷ r) ≡ Some 0
       → All (Matched T) B.list → All (BodyMatches T 0) Bs → BodiesLeft T (depth_by (sign_of T b) q) (with_rest r B ∷ Bs)
-  unfolding depth_after bind
+  unfolding depth_after
   taken q b r B Bs e P R = go (depth_by (sign_of T b) q) e
     where
-      go : (d : Option ℕ) → bind d (λ k. depth_after T k r) ≡ some 0 → BodiesLeft T d (with_rest r B ∷ Bs)
-      go none e = none_some e
-      go (some k) e = (record { list = P; rest = e }, R)
+      go : (d : Option ℕ) → option_and_then (λ k. depth_after T k r) d ≡ Some 0 → BodiesLeft T d (with_rest r B ∷ Bs)
+      go None e = none_some e
+      go (Some k) e = (record { list = P; rest = e }, R)
 
   -- in the text no body is left
   untaken : (d : Option ℕ) → BodiesLeft T d []
-  untaken none = tt
-  untaken (some k) = tt
+  untaken None = tt
+  untaken (Some k) = tt
 
   -- an end that is no finish
   refused : (n : ℕ) (s : State) → finishes n ≡ false → Kept T s.standing.output (ends n s)
@@ -350,8 +351,8 @@ module _ (L : Limits) (T : Table) (plainly : ReservedPlain T) where
 
   module _ (t : Bytes) (Bs : List Body) (w : Standing) where
     -- bytes that lead from what was copied at depth q to what is copied at depth k
-    put_keeps : (bs : Bytes) (q k : ℕ) (cs : List Call) → depth_after T (pred q) bs ≡ some (pred k)
-        → Innermost (CallMatches T) q cs → depth_after T 0 w.output ≡ some (depth_written q cs)
+    put_keeps : (bs : Bytes) (q k : ℕ) (cs : List Call) → depth_after T (pred q) bs ≡ Some (pred k)
+        → Innermost (CallMatches T) q cs → depth_after T 0 w.output ≡ Some (depth_written q cs)
         → Innermost (BodyMatches T) k Bs → All (ValueMatches T) w.definitions
         → Kept T w.output (S.put L bs (state_of t k cs Bs w))
     put_keeps bs q k [] e C O R D =
@@ -440,8 +441,8 @@ module _ (L : Limits) (T : Table) (plainly : ReservedPlain T) where
     number_keeps b r cs B Bs e g = go (parameter_number b) refl
       where
         go : (j : Option ℕ) → parameter_number b ≡ j → Kept T w.output (S.fetch_number L j B.list (state_of t 0 cs (with_rest r B ∷ Bs) w))
-        go none p = refused T Outcomes.fetches_nothing (state_of t 0 cs (with_rest r B ∷ Bs) w) refl
-        go (some k) p =
+        go None p = refused T Outcomes.fetches_nothing (state_of t 0 cs (with_rest r B ∷ Bs) w) refl
+        go (Some k) p =
             let same-depth = depth_plain T 0 b r (number_plain T plainly b k p) in
             supplied_keeps (ltb k (length B.list)) (parameter k B.list) cs (with_rest r B ∷ Bs)
             (all_get_d [] (matched-empty T) g.bodies.0.list k)
@@ -458,7 +459,7 @@ module _ (L : Limits) (T : Table) (plainly : ReservedPlain T) where
         go (x ∷ r) e = number_keeps x r cs B Bs e g
 
     -- an unquoted `>`, which is not in a body
-    unquote_keeps : (b : ℕ) (cs : List Call) (Bs : List Body) → BodiesLeft T none Bs → depth_after T 0 w.output ≡ some (depth_written 0 cs)
+    unquote_keeps : (b : ℕ) (cs : List Call) (Bs : List Body) → BodiesLeft T None Bs → depth_after T 0 w.output ≡ Some (depth_written 0 cs)
         → Kept T w.output (S.unquote L Bs cs b (state_of t 0 cs Bs w))
     unquote_keeps b [] [] R O = record { unchanged = refl; matched = λ f. O }
     unquote_keeps b (c ∷ cs) [] R O = refused T Outcomes.quote_in_call (state_of t 0 (c ∷ cs) [] w) refl
@@ -466,12 +467,12 @@ module _ (L : Limits) (T : Table) (plainly : ReservedPlain T) where
 
     -- a byte that was taken at depth q: the bodies have moved on, what is collected has not
     byte_keeps : {q : ℕ} {d : Option ℕ} {m : Meaning} (b : ℕ) (cs : List Call) (Bs : List Body) → Means (sign_of T b) q d m
-        → Innermost (CallMatches T) q cs → depth_after T 0 w.output ≡ some (depth_written q cs)
+        → Innermost (CallMatches T) q cs → depth_after T 0 w.output ≡ Some (depth_written q cs)
         → BodiesLeft T d Bs → All (ValueMatches T) w.definitions
         → Kept T w.output (S.byte L (language T) m b (state_of t q cs Bs w))
     byte_keeps b cs Bs (copying {q} {k} e) C O R D = put_keeps t Bs w (b ∷ []) q k cs (depth_one T (pred q) b ∙ e) C O R D
-    byte_keeps b [] Bs (leaving e) C O R D = matches T tt (O ∙ ap some e) R D
-    byte_keeps b (c ∷ cs) Bs (leaving e) C O R D = matches T (record { ended = C.0.ended; hand = C.0.hand ∙ ap some e }, C.1) O R D
+    byte_keeps b [] Bs (leaving e) C O R D = matches T tt (O ∙ ap Some e) R D
+    byte_keeps b (c ∷ cs) Bs (leaving e) C O R D = matches T (record { ended = C.0.ended; hand = C.0.hand ∙ ap Some e }, C.1) O R D
     byte_keeps b cs Bs opening C O R D = open_keeps t Bs w cs (matches T C O R D)
     byte_keeps b cs Bs (separating e) C O R D = separate_keeps t Bs w b cs (depth_one T 0 b ∙ e) (matches T C O R D)
     byte_keeps b cs Bs (applying e) C O R D =
@@ -505,7 +506,7 @@ module _ (L : Limits) (T : Table) (plainly : ReservedPlain T) where
       s : State
       s = S.counting 0 (state_of t q cs (B ∷ Bs) w)
 
-      go : (r : Bytes) → depth_after T q r ≡ some 0 → Kept T w.output (S.from_body L (language T) r B Bs (state_of t q cs (B ∷ Bs) w))
+      go : (r : Bytes) → depth_after T q r ≡ Some 0 → Kept T w.output (S.from_body L (language T) r B Bs (state_of t q cs (B ∷ Bs) w))
       go [] e =
           body_end_keeps t s.standing (S.own_call s) q cs B Bs (depth_empty T q 0 e)
           (matches T g.calls g.output g.bodies g.values)
@@ -564,7 +565,7 @@ module _ (L : Limits) (T : Table) (accepted : AcceptedTable T) where
 
   -- which ends as deep in quotes as is said of that state.
   pub output_depth : {s : State} {e : End} → QuotesMatch T s → scan L (language T) s ≡ stop e
-      → depth_after T 0 e.output ≡ some (depth_written s.quotes s.calls)
+      → depth_after T 0 e.output ≡ Some (depth_written s.quotes s.calls)
   output_depth g p = ap (depth_after T 0) (output_kept g p) ∙ g.output
 
   -- Where a scan finishes the run, with 0 or 1, quotes in the output are matched,

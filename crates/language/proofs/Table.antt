@@ -5,7 +5,7 @@ use Prim.Native.String.{String}
 use mathlib.Core.Path.{◌≡◌, refl}
 use mathlib.Core.Bool.{Bool, true, false, cond}
 use mathlib.Core.List.{List, [], ◌∷◌, ◌++◌}
-use mathlib.Core.Option.{Option, none, some}
+use Rattle.std.specs.Prelude.{Option, None, Some}
 use lib.ListN.{length, set, take}
 use lib.Dec.{eqb}
 use Rattle.language.specs.Signs.{Bytes, ascii, Table, standard}
@@ -49,52 +49,52 @@ Judged = String × Table × Option ℕ
 
 abbrev tables : List Judged
 tables =
-    ("standard", standard, none) ∷
-    ("`#` for `$`", with ((36, 0) ∷ (35, 1) ∷ []), none) ∷
-    ("`$` and `;` exchanged", with ((36, 3) ∷ (59, 1) ∷ []), none) ∷
-    ("the first byte and the last", with ((36, 0) ∷ (0, 1) ∷ (62, 0) ∷ (255, 6) ∷ []), none) ∷
-    ("beside letters and digits", with ((36, 0) ∷ (44, 0) ∷ (59, 0) ∷ (126, 0) ∷ (60, 0) ∷ (62, 0) ∷ (47, 1) ∷ (58, 2) ∷ (64, 3) ∷ (91, 4) ∷ (96, 5) ∷ (123, 6) ∷ []), none) ∷
-    ("beside `*`, `+` and `-`", with ((36, 0) ∷ (59, 0) ∷ (41, 1) ∷ (46, 3) ∷ []), none) ∷
+    ("standard", standard, None) ∷
+    ("`#` for `$`", with ((36, 0) ∷ (35, 1) ∷ []), None) ∷
+    ("`$` and `;` exchanged", with ((36, 3) ∷ (59, 1) ∷ []), None) ∷
+    ("the first byte and the last", with ((36, 0) ∷ (0, 1) ∷ (62, 0) ∷ (255, 6) ∷ []), None) ∷
+    ("beside letters and digits", with ((36, 0) ∷ (44, 0) ∷ (59, 0) ∷ (126, 0) ∷ (60, 0) ∷ (62, 0) ∷ (47, 1) ∷ (58, 2) ∷ (64, 3) ∷ (91, 4) ∷ (96, 5) ∷ (123, 6) ∷ []), None) ∷
+    ("beside `*`, `+` and `-`", with ((36, 0) ∷ (59, 0) ∷ (41, 1) ∷ (46, 3) ∷ []), None) ∷
     -- 30
-    ("no entries", [], some 30) ∷
-    ("255 entries", take 255 standard, some 30) ∷
-    ("257 entries", standard ++ (0 ∷ []), some 30) ∷
-    ("7 for the first byte", with ((0, 7) ∷ []), some 30) ∷
-    ("7 for the last byte", with ((255, 7) ∷ []), some 30) ∷
-    ("255 for `A`", with ((65, 255) ∷ []), some 30) ∷
-    ("7 for `>`: 30 before 31", with ((62, 7) ∷ []), some 30) ∷
+    ("no entries", [], Some 30) ∷
+    ("255 entries", take 255 standard, Some 30) ∷
+    ("257 entries", standard ++ (0 ∷ []), Some 30) ∷
+    ("7 for the first byte", with ((0, 7) ∷ []), Some 30) ∷
+    ("7 for the last byte", with ((255, 7) ∷ []), Some 30) ∷
+    ("255 for `A`", with ((65, 255) ∷ []), Some 30) ∷
+    ("7 for `>`: 30 before 31", with ((62, 7) ∷ []), Some 30) ∷
     -- 31
-    ("no `$`", with ((36, 0) ∷ []), some 31) ∷
-    ("no `,`", with ((44, 0) ∷ []), some 31) ∷
-    ("no `;`", with ((59, 0) ∷ []), some 31) ∷
-    ("no `~`", with ((126, 0) ∷ []), some 31) ∷
-    ("no `<`", with ((60, 0) ∷ []), some 31) ∷
-    ("no `>`", with ((62, 0) ∷ []), some 31) ∷
-    ("1 for the first byte too", with ((0, 1) ∷ []), some 31) ∷
-    ("2 for another byte too", with ((35, 2) ∷ []), some 31) ∷
-    ("3 for another byte too", with ((35, 3) ∷ []), some 31) ∷
-    ("4 for another byte too", with ((35, 4) ∷ []), some 31) ∷
-    ("5 for another byte too", with ((35, 5) ∷ []), some 31) ∷
-    ("6 for the last byte too", with ((255, 6) ∷ []), some 31) ∷
-    ("`>` for `<`", with ((60, 6) ∷ (62, 0) ∷ []), some 31) ∷
-    ("1 for `A` too: 31 before 32", with ((65, 1) ∷ []), some 31) ∷
+    ("no `$`", with ((36, 0) ∷ []), Some 31) ∷
+    ("no `,`", with ((44, 0) ∷ []), Some 31) ∷
+    ("no `;`", with ((59, 0) ∷ []), Some 31) ∷
+    ("no `~`", with ((126, 0) ∷ []), Some 31) ∷
+    ("no `<`", with ((60, 0) ∷ []), Some 31) ∷
+    ("no `>`", with ((62, 0) ∷ []), Some 31) ∷
+    ("1 for the first byte too", with ((0, 1) ∷ []), Some 31) ∷
+    ("2 for another byte too", with ((35, 2) ∷ []), Some 31) ∷
+    ("3 for another byte too", with ((35, 3) ∷ []), Some 31) ∷
+    ("4 for another byte too", with ((35, 4) ∷ []), Some 31) ∷
+    ("5 for another byte too", with ((35, 5) ∷ []), Some 31) ∷
+    ("6 for the last byte too", with ((255, 6) ∷ []), Some 31) ∷
+    ("`>` for `<`", with ((60, 6) ∷ (62, 0) ∷ []), Some 31) ∷
+    ("1 for `A` too: 31 before 32", with ((65, 1) ∷ []), Some 31) ∷
     -- 32
-    ("`A` for `$`", with ((36, 0) ∷ (65, 1) ∷ []), some 32) ∷
-    ("`Z` for `,`", with ((44, 0) ∷ (90, 2) ∷ []), some 32) ∷
-    ("`a` for `;`", with ((59, 0) ∷ (97, 3) ∷ []), some 32) ∷
-    ("`z` for `~`", with ((126, 0) ∷ (122, 4) ∷ []), some 32) ∷
-    ("`0` for `<`", with ((60, 0) ∷ (48, 5) ∷ []), some 32) ∷
-    ("`9` for `>`", with ((62, 0) ∷ (57, 6) ∷ []), some 32) ∷
-    ("`+` for `$`", with ((36, 0) ∷ (43, 1) ∷ []), some 32) ∷
-    ("`-` for `>`", with ((62, 0) ∷ (45, 6) ∷ []), some 32) ∷
-    ("`*` for `;`", with ((59, 0) ∷ (42, 3) ∷ []), some 32) ∷
+    ("`A` for `$`", with ((36, 0) ∷ (65, 1) ∷ []), Some 32) ∷
+    ("`Z` for `,`", with ((44, 0) ∷ (90, 2) ∷ []), Some 32) ∷
+    ("`a` for `;`", with ((59, 0) ∷ (97, 3) ∷ []), Some 32) ∷
+    ("`z` for `~`", with ((126, 0) ∷ (122, 4) ∷ []), Some 32) ∷
+    ("`0` for `<`", with ((60, 0) ∷ (48, 5) ∷ []), Some 32) ∷
+    ("`9` for `>`", with ((62, 0) ∷ (57, 6) ∷ []), Some 32) ∷
+    ("`+` for `$`", with ((36, 0) ∷ (43, 1) ∷ []), Some 32) ∷
+    ("`-` for `>`", with ((62, 0) ∷ (45, 6) ∷ []), Some 32) ∷
+    ("`*` for `;`", with ((59, 0) ∷ (42, 3) ∷ []), Some 32) ∷
     []
 
 abbrev same_outcome : Option ℕ → Option ℕ → Bool
-same_outcome none none = true
-same_outcome none (some k) = false
-same_outcome (some j) none = false
-same_outcome (some j) (some k) = eqb j k
+same_outcome None None = true
+same_outcome None (Some k) = false
+same_outcome (Some j) None = false
+same_outcome (Some j) (Some k) = eqb j k
 
 -- the names of those that come to something else
 abbrev misjudged : List Judged → List String

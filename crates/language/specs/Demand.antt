@@ -1,6 +1,6 @@
 -- Demand 3, as a statement about whole runs.
 use Rattle.std.specs.Prelude.{ℕ, ◌≤◌, ◌≡◌, ◌↔◌, length, T as So}
-use Rattle.std.proofs.Math.Option.{none, some}
+use Rattle.std.specs.Prelude.{None, Some}
 use Rattle.language.specs.Signs.{language}
 use Rattle.language.specs.Outcomes.{end_of_text}
 use Rattle.language.specs.Refusals.{refused_by}
@@ -11,7 +11,7 @@ use Rattle.language.specs.Expansion.{Given, Returned, refusals, overwritten, exp
 -- Substitution of the text comes to the end e at some depth, and what was lent is at least what it counted.
 pub record Affords (g : Given) (e : End) : Type 0 where
   pub depth : ℕ
-  pub comes : substituted (language g.table) depth g.text g.definitions ≡ some e
+  pub comes : substituted (language g.table) depth g.text g.definitions ≡ Some e
   pub enough_cells : e.most ≤ length g.lent.cells
   pub enough_output : length e.output ≤ length g.lent.output
   pub enough_scans : e.scans ≤ g.allowance
@@ -25,7 +25,7 @@ Demand3 g run = (e : End) → ((run ≡ e) × So (end_of_text e.outcome)) ↔ Af
 pub record Substitutes (g : Given) (x : Returned) : Type 0 where
   pub only : So (end_of_text x.report.outcome)
       → (e : End) × Affords g e × (x.report ≡ reported e) × (x.lent.output ≡ overwritten e.output g.lent.output)
-  pub always : refused_by (refusals g) ≡ none → (e : End) → Affords g e
+  pub always : refused_by (refusals g) ≡ None → (e : End) → Affords g e
       → So (end_of_text e.outcome) × (x.report ≡ reported e) × (x.lent.output ≡ overwritten e.output g.lent.output)
 
 -- What a whole run leaves, by both definitions: by scanning it is the run of document 01; by substitution demand 3 holds of it.

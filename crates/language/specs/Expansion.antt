@@ -1,6 +1,6 @@
 -- A public call: from what it is given to what it reports and leaves.
 use Rattle.std.specs.Prelude.{ℕ, List, [], ◌∷◌, ◌++◌, length, drop}
-use Rattle.std.proofs.Math.Option.{Option, none, some}
+use Rattle.std.specs.Prelude.{Option, None, Some}
 use Rattle.language.specs.Signs.{Bytes, Table, language}
 use Rattle.language.specs.Refusals.{Refusal, refused_by, lent_refusals}
 use Rattle.language.specs.Definitions.{Definition}
@@ -65,8 +65,8 @@ abbrev pub returned_by : End → Lent → Returned
 returned_by e m = record { report = reported e; lent = lent (cleared m.cells) (overwritten e.output m.output) }
 
 abbrev pub answered : Option ℕ → Given → Returned
-answered (some outcome) g = untouched outcome g.lent
-answered none g = returned_by (ending g) g.lent
+answered (Some outcome) g = untouched outcome g.lent
+answered None g = returned_by (ending g) g.lent
 
 -- a whole run: refused, or brought to its end
 unfoldable pub expanded : Given → Returned

@@ -1,7 +1,7 @@
 -- Document 02, Nine: "the mark goes wherever this definition goes". Where a definition goes: its number after each scan, as long as
 -- it stands.
 use Rattle.std.specs.Prelude.{ℕ, suc, ◌+◌, ◌-◌, ◌≡◌, Bool, false, cond, List, [], ◌∷◌, length, ltb}
-use Rattle.std.proofs.Math.Option.{Option, none, some}
+use Rattle.std.specs.Prelude.{Option, None, Some}
 use Rattle.language.specs.Signs.{Bytes, Language}
 use Rattle.language.specs.Definitions.{Content, macro, built_in, Definition, defined, Change, changed}
 use Rattle.language.specs.Scanning.{Call, Body, State, next, Limits, scan}
@@ -41,14 +41,14 @@ going s s₁ =
 
 -- the number that definition number k has when they are gone; none where it is one of them
 abbrev pub number_after : ℕ × ℕ → ℕ → Option ℕ
-number_after g k = cond (ltb k g.0) (some k) (cond (ltb k g.1) none (some (k - (g.1 - g.0))))
+number_after g k = cond (ltb k g.0) (Some k) (cond (ltb k g.1) None (Some (k - (g.1 - g.0))))
 
 -- As long as it stands -------------------------------------------------------------------------------------------------
 
 -- definition number k of s stands from scan to scan, and is number j of s₂
 pub data StandsTo (L : Limits) (G : Language) (s₂ : State) (j : ℕ) : State → ℕ → Type 0 where
   arrived : {k : ℕ} → k ≡ j → StandsTo L G s₂ j s₂ k
-  goes : {s s₁ : State} {k i : ℕ} → scan L G s ≡ next s₁ → number_after (going s s₁) k ≡ some i → StandsTo L G s₂ j s₁ i → StandsTo L G s₂ j s k
+  goes : {s s₁ : State} {k i : ℕ} → scan L G s ≡ next s₁ → number_after (going s s₁) k ≡ Some i → StandsTo L G s₂ j s₁ i → StandsTo L G s₂ j s k
 
 -- a definition behind a scan: it is as it was, or UPDATE or LOCK has altered it
 pub data Becomes (d : Definition) : Definition → Type 0 where
@@ -58,5 +58,5 @@ pub data Becomes (d : Definition) : Definition → Type 0 where
 -- number j of the definitions behind a scan, so many, where ds stood before it and those from g.0 up to g.1 went: it stood
 -- before; or it is the newest, which DEF made
 pub data ComesFrom (g : ℕ × ℕ) (ds : List Definition) (count j : ℕ) : Definition → Type 0 where
-  stood : {k : ℕ} {d e : Definition} → Numbered d k ds → number_after g k ≡ some j → Becomes d e → ComesFrom g ds count j e
+  stood : {k : ℕ} {d e : Definition} → Numbered d k ds → number_after g k ≡ Some j → Becomes d e → ComesFrom g ds count j e
   made : {n v : Bytes} → suc j ≡ count → ComesFrom g ds count j (defined n v)

@@ -1,30 +1,31 @@
 -- Document 01, Quotes: "Every collected string so has matched quotes: a body never shows an unquoted `>` and never ends
 -- inside quotes."
 use Rattle.std.specs.Prelude.{ℕ, zero, suc, pred, ◌≡◌, List, [], ◌∷◌}
-use Rattle.std.proofs.Math.Option.{Option, none, some, bind}
+use Rattle.std.specs.Prelude.{Option, None, Some}
+use Rattle.std.specs.Prelude.{option_and_then}
 use Rattle.language.specs.Signs.{Bytes, Table, Sign, plain, dollar, comma, semicolon, tilde, quote, unquote, sign_of}
 use Rattle.language.specs.Definitions.{Content, macro, built_in, Definition}
 use Rattle.language.specs.Scanning.{Call, Body, State}
 
 -- the depth of quotes after a sign that is read at depth q: none after an unquote where nothing is open
 abbrev pub depth_by : Sign → ℕ → Option ℕ
-depth_by plain q = some q
-depth_by dollar q = some q
-depth_by comma q = some q
-depth_by semicolon q = some q
-depth_by tilde q = some q
-depth_by quote q = some (suc q)
-depth_by unquote zero = none
-depth_by unquote (suc q) = some q
+depth_by plain q = Some q
+depth_by dollar q = Some q
+depth_by comma q = Some q
+depth_by semicolon q = Some q
+depth_by tilde q = Some q
+depth_by quote q = Some (suc q)
+depth_by unquote zero = None
+depth_by unquote (suc q) = Some q
 
 -- the depth of quotes after bytes that are read from depth q on
 unfoldable pub depth_after : Table → ℕ → Bytes → Option ℕ
-depth_after T q [] = some q
-depth_after T q (b ∷ bs) = bind (depth_by (sign_of T b) q) (λ k. depth_after T k bs)
+depth_after T q [] = Some q
+depth_after T q (b ∷ bs) = option_and_then (λ k. depth_after T k bs) (depth_by (sign_of T b) q)
 
 -- every quote is closed by an unquote, and every unquote closes one
 abbrev pub Matched : Table → Bytes → Type 0
-Matched T bs = depth_after T 0 bs ≡ some 0
+Matched T bs = depth_after T 0 bs ≡ Some 0
 
 -- every element has a property
 pub data All {A : Type 0} (P : A → Type 0) : List A → Type 0 where
@@ -39,12 +40,12 @@ Innermost P q (x ∷ xs) = P q x × All (P 0) xs
 -- a call being collected at depth q: of the quotes that are open the outermost is not in its hand
 pub record CallMatches (T : Table) (q : ℕ) (c : Call) : Type 0 where
   pub ended : All (Matched T) c.ended
-  pub hand : depth_after T 0 c.hand ≡ some (pred q)
+  pub hand : depth_after T 0 c.hand ≡ Some (pred q)
 
 -- a body being read at depth q: its rest closes exactly what is open
 pub record BodyMatches (T : Table) (q : ℕ) (B : Body) : Type 0 where
   pub list : All (Matched T) B.list
-  pub rest : depth_after T q B.rest ≡ some 0
+  pub rest : depth_after T q B.rest ≡ Some 0
 
 -- a macro's value has matched quotes; a built-in has none
 abbrev pub ContentMatches : Table → Content → Type 0
@@ -64,6 +65,6 @@ depth_written q (c ∷ cs) = 0
 -- now open. Nothing is said of the text still to be read.
 pub record QuotesMatch (T : Table) (s : State) : Type 0 where
   pub calls : Innermost (CallMatches T) s.quotes s.calls
-  pub output : depth_after T 0 s.standing.output ≡ some (depth_written s.quotes s.calls)
+  pub output : depth_after T 0 s.standing.output ≡ Some (depth_written s.quotes s.calls)
   pub bodies : Innermost (BodyMatches T) s.quotes s.bodies
   pub values : All (ValueMatches T) s.standing.definitions

@@ -1,6 +1,6 @@
 -- Document 02, Eight: where each byte of the output came from.
 use Rattle.std.specs.Prelude.{ℕ, zero, suc, ◌-◌, ◌≤◌, ◌≡◌, Bool, false, cond, ◌||◌, List, [], ◌∷◌, ◌++◌, map, length, take, drop, ltb}
-use Rattle.std.proofs.Math.Option.{Option, none, some}
+use Rattle.std.specs.Prelude.{Option, None, Some}
 use Rattle.language.specs.Signs.{Bytes, Language, Meaning, copied, left_out, opens, separates, applies, fetches, unquotes, meaning, language}
 use Rattle.language.specs.Outcomes
 use Rattle.language.specs.Refusals.{Refusal, refused_by}
@@ -37,8 +37,8 @@ pub record Writes : Type 0 where
 
 -- bytes "go to the argument being collected by the innermost open call, else to the output"
 abbrev pub puts : List Call → ℕ → Bytes → Option Writes
-puts [] rule bs = some (record { bytes = bs; rule = rule })
-puts (c ∷ cs) rule bs = none
+puts [] rule bs = Some (record { bytes = bs; rule = rule })
+puts (c ∷ cs) rule bs = None
 
 abbrev pub copied_from : List Body → ℕ
 copied_from [] = copied_from_text
@@ -61,31 +61,31 @@ given_by Lock = given_by_built_in
 -- what a built-in gives, the calls cs being open around it
 abbrev pub giving : BuiltIn → List Call → Deed → Option Writes
 giving b cs (gives bs) = puts cs (given_by b) bs
-giving b cs (reads k v) = none
-giving b cs (defines n v) = none
-giving b cs (alters k change) = none
-giving b cs (faulty n) = none
+giving b cs (reads k v) = None
+giving b cs (defines n v) = None
+giving b cs (alters k change) = None
+giving b cs (faulty n) = None
 
 -- "the newest definition with that name is taken": a body is read from the next scan
 abbrev pub taking : Found → List Call → Deed → Option Writes
-taking missing cs d = none
-taking (found k (macro x)) cs d = none
+taking missing cs d = None
+taking (found k (macro x)) cs d = None
 taking (found k (built_in b)) cs d = giving b cs d
 
 -- `;` that applies the innermost call
 abbrev pub applying : List Call → State → Option Writes
-applying [] s = none
+applying [] s = None
 applying (c ∷ cs) s =
     let ds = s.standing.definitions in
     taking (newest (parameter 0 (list_of c)) ds) cs (deed (reading s.bodies) (list_of c) ds)
 
 -- "`~r` in a body copies parameter r"
 abbrev pub fetching_number : Option ℕ → List Bytes → State → Option Writes
-fetching_number none list s = none
-fetching_number (some k) list s = puts s.calls fetched (parameter k list)
+fetching_number None list s = None
+fetching_number (Some k) list s = puts s.calls fetched (parameter k list)
 
 abbrev pub fetching_in : Language → Bytes → List Bytes → State → Option Writes
-fetching_in G [] list s = none
+fetching_in G [] list s = None
 fetching_in G (b ∷ r) list s = fetching_number (G.parameter_number b) list s
 
 -- "In the text, with no open call, `~` is copied as a plain byte."
@@ -96,25 +96,25 @@ fetching G (body ∷ bodies) b s = fetching_in G body.rest body.list s
 -- a byte that was taken from its source. `,` and `;` are copied where they separate and apply nothing.
 abbrev pub taken : Language → Meaning → ℕ → State → Option Writes
 taken G (copied q) b s = copies b s
-taken G (left_out q) b s = none
-taken G opens b s = none
+taken G (left_out q) b s = None
+taken G opens b s = None
 taken G separates b s = copies b s
 taken G applies b s = cond (own_call s) (applying s.calls s) (copies b s)
 taken G fetches b s = fetching G s.bodies b s
 taken G unquotes b s = copies b s
 
 abbrev pub taken_from_body : Language → Bytes → Body → List Body → State → Option Writes
-taken_from_body G [] body bodies s = none
+taken_from_body G [] body bodies s = None
 taken_from_body G (b ∷ r) body bodies s = taken G (meaning G.table s.quotes b) b (with_bodies (with_rest r body ∷ bodies) s)
 
 abbrev pub taken_from : Language → List Body → Bytes → State → Option Writes
-taken_from G [] [] s = none
+taken_from G [] [] s = None
 taken_from G [] (b ∷ t) s = taken G (meaning G.table s.quotes b) b s
 taken_from G (body ∷ bodies) t s = taken_from_body G body.rest body bodies s
 
 abbrev pub bytes_in : Option Writes → Bytes
-bytes_in none = []
-bytes_in (some w) = w.bytes
+bytes_in None = []
+bytes_in (Some w) = w.bytes
 
 -- what the next scan writes to the output, if it goes on: "A refused scan adds no byte"
 unfoldable pub writes : Language → State → Option Writes
@@ -133,9 +133,9 @@ each read rule bs = map (λ b. record { byte = b; read = read; rule = rule }) bs
 
 -- of one scan, by what it came to
 abbrev pub scan_origins : Option Writes → Step → List Origin
-scan_origins none t = []
-scan_origins (some w) (stop e) = []
-scan_origins (some w) (next s) = each s.standing.read w.rule w.bytes
+scan_origins None t = []
+scan_origins (Some w) (stop e) = []
+scan_origins (Some w) (next s) = each s.standing.read w.rule w.bytes
 
 -- of at most n scans more, in their order
 unfoldable pub origins_from : Limits → Language → ℕ → Step → List Origin
@@ -210,8 +210,8 @@ noted os ns = numbers (overwritten (reads_of os) ns.origins) (overwritten (rules
 
 -- refused with nothing touched, or the ordinary run to its end with the origins beside it
 abbrev pub answered_with : Option ℕ → GivenNumbers → ReturnedNumbers
-answered_with (some outcome) g = returned_with (untouched outcome g.given.lent) g.numbers
-answered_with none g = returned_with (returned_by (ending g.given) g.given.lent) (noted (origins g.given) g.numbers)
+answered_with (Some outcome) g = returned_with (untouched outcome g.given.lent) g.numbers
+answered_with None g = returned_with (returned_by (ending g.given) g.given.lent) (noted (origins g.given) g.numbers)
 
 unfoldable pub expanded_origins : GivenNumbers → ReturnedNumbers
 expanded_origins g = answered_with (refused_by (refusals_with g)) g

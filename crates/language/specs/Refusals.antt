@@ -1,6 +1,6 @@
 -- What a call is refused for before its first scan, and document 02, Two: the checks of a table that a caller lends.
 use Rattle.std.specs.Prelude.{ℕ, zero, suc, ◌+◌, ◌≡◌, Bool, true, false, cond, ◌&&◌, ◌||◌, not, List, [], ◌∷◌, length, get_or, eqb, leb, ltb}
-use Rattle.std.proofs.Math.Option.{Option, none, some}
+use Rattle.std.specs.Prelude.{Option, None, Some}
 use Rattle.decimal.specs.Operand.{is_digit}
 use Rattle.language.specs.Signs.{Table, is_letter, text_limit, cells_limit, output_limit}
 use Rattle.language.specs.Outcomes
@@ -14,8 +14,8 @@ pub record Refusal : Type 0 where
 
 -- the first that holds
 unfoldable pub refused_by : List Refusal → Option ℕ
-refused_by [] = none
-refused_by (x ∷ more) = let r = refused_by more in cond x.holds (some x.outcome) r
+refused_by [] = None
+refused_by (x ∷ more) = let r = refused_by more in cond x.holds (Some x.outcome) r
 
 -- Document 01: "text, cells and output may each be lent up to 65,536 long"
 abbrev pub sizes_too_large : ℕ → ℕ → ℕ → Bool
@@ -81,9 +81,9 @@ lent_refusals text cells output T = record { outcome = Outcomes.too_large; holds
 
 -- a table that takes the place of the standard one
 abbrev pub AcceptedTable : Table → Type 0
-AcceptedTable T = refused_by (sign_refusals T) ≡ none
+AcceptedTable T = refused_by (sign_refusals T) ≡ None
 
 -- what the code's verdict stands for: no refusal, or the outcome of one
 abbrev pub refusal_in : Verdict → Option ℕ
-refusal_in Accepted = none
-refusal_in (Refused outcome) = some outcome
+refusal_in Accepted = None
+refusal_in (Refused outcome) = Some outcome

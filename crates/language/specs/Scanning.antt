@@ -1,6 +1,6 @@
 -- Document 01, One scan: the language by scanning.
 use Rattle.std.specs.Prelude.{ℕ, zero, suc, ◌+◌, max, Bool, true, false, cond, List, [], ◌∷◌, ◌++◌, length, leb, ltb}
-use Rattle.std.proofs.Math.Option.{Option, none, some}
+use Rattle.std.specs.Prelude.{Option, None, Some}
 use Rattle.language.specs.Signs.{Bytes, Language, Meaning, copied, left_out, opens, separates, applies, fetches, unquotes, meaning}
 use Rattle.language.specs.Outcomes
 use Rattle.language.specs.Definitions.{Definition, defined, altered, oldest, without}
@@ -238,8 +238,8 @@ module _ (L : Limits) where
   fetch_supplied false p s = ends Outcomes.not_supplied s
 
   abbrev pub fetch_number : Option ℕ → List Bytes → State → Step
-  fetch_number none list s = ends Outcomes.fetches_nothing s
-  fetch_number (some k) list s = fetch_supplied (ltb k (length list)) (parameter k list) s
+  fetch_number None list s = ends Outcomes.fetches_nothing s
+  fetch_number (Some k) list s = fetch_supplied (ltb k (length list)) (parameter k list) s
 
   -- 12: the byte after `~` stands for no parameter, or the body ends
   abbrev pub fetch_in_body : Language → Bytes → Body → List Body → State → Step

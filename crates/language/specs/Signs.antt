@@ -2,7 +2,7 @@
 use Rattle.std.specs.Prelude.{ℕ, zero, suc, ◌+◌, ◌-◌, Bool, cond, ◌&&◌, List, [], ◌∷◌, get_or, eqb, leb}
 use Prim.Native.Char.{code}
 use Prim.Native.String.{String}
-use Rattle.std.proofs.Math.Option.{Option, none, some}
+use Rattle.std.specs.Prelude.{Option, None, Some}
 use Rattle.decimal.specs.Operand.{is_digit}
 
 -- "A text is bytes, each 8 bits."
@@ -69,7 +69,7 @@ meaning T (suc q) b = inside q (sign_of T b)
 
 -- the parameter that the byte after `~` in a body stands for by document 01: "0 is the name", "a digit only"
 abbrev pub parameter_digit : ℕ → Option ℕ
-parameter_digit b = cond (is_digit b) (some (b - 48)) none
+parameter_digit b = cond (is_digit b) (Some (b - 48)) None
 
 -- Document 02, One: "a lower-case letter `a` to `z`"
 abbrev pub is_letter : ℕ → Bool
@@ -77,7 +77,7 @@ is_letter b = leb 97 b && leb b 122
 
 -- "After `~` in a body, a lower-case letter `a` to `z` fetches parameters 10 to 35."
 abbrev pub parameter_number : ℕ → Option ℕ
-parameter_number b = let digit = parameter_digit b in cond (is_letter b) (some (b - 97 + 10)) digit
+parameter_number b = let digit = parameter_digit b in cond (is_letter b) (Some (b - 97 + 10)) digit
 
 -- what bytes stand for: their kinds, and after `~` in a body their parameters
 pub record Language : Type 0 where

@@ -1,6 +1,6 @@
 -- Document 01, Substitution: the language by recursive substitution.
 use Rattle.std.specs.Prelude.{ℕ, zero, suc, ◌+◌, ◌-◌, max, Bool, true, false, List, [], ◌∷◌, ◌++◌, length, ltb}
-use Rattle.std.proofs.Math.Option.{Option, none, some}
+use Rattle.std.specs.Prelude.{Option, None, Some}
 use Rattle.language.specs.Signs.{Bytes, Language, Meaning, copied, left_out, opens, separates, applies, fetches, unquotes, meaning}
 use Rattle.language.specs.Outcomes
 use Rattle.language.specs.Definitions.{Definition, defined, altered, oldest, newer, between, without}
@@ -237,8 +237,8 @@ module _ (nested : Eval) (go : Go) where
   fetch_supplied false c p r h = ends Outcomes.not_supplied h
 
   abbrev pub fetch_number : Option ℕ → List Bytes → Collecting → Bytes → Held → Result
-  fetch_number none list c r h = ends Outcomes.fetches_nothing h
-  fetch_number (some k) list c r h = fetch_supplied (ltb k (length list)) c (parameter k list) r h
+  fetch_number None list c r h = ends Outcomes.fetches_nothing h
+  fetch_number (Some k) list c r h = fetch_supplied (ltb k (length list)) c (parameter k list) r h
 
   -- Document 02, One: "substitution reads letters the same way"
   abbrev pub fetch_in_body : Language → List Bytes → Collecting → Bytes → Held → Result
@@ -308,9 +308,9 @@ start ds = record { definitions = ds; output = []; read = 0; scans = 0; charge =
 
 -- Substitution: "deeper" is no end
 abbrev pub ended : Result → Option End
-ended (stretch r h) = some (end_at Outcomes.finished h.handed)
-ended (finish e) = some e
-ended deeper = none
+ended (stretch r h) = Some (end_at Outcomes.finished h.handed)
+ended (finish e) = Some e
+ended deeper = None
 
 -- "Substitution is fed the text, the table of kinds, the definitions a run starts with .. and a depth allowance, and nothing
 -- else of a run." The table comes with what the byte after `~` stands for.

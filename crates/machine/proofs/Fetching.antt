@@ -4,7 +4,7 @@ use native.Mathlib.Omega.{arith}
 use mathlib.Core.Path.{◌≡◌, refl, sym, ap, ◌∙◌}
 use mathlib.Core.Bool.{Bool, true, false, cond, ◌&&◌}
 use mathlib.Core.List.{List, [], ◌∷◌, ◌++◌}
-use mathlib.Core.Option.{Option, none, some}
+use Rattle.std.specs.Prelude.{Option, None, Some}
 use lib.ListN.{length, take, drop, get_or, length-drop}
 use lib.Seq.{get_or-drop}
 use lib.Dec.{leb, ltb}
@@ -95,19 +95,19 @@ module _ {n : ℕ} {older : List Definition} {heads whole start : List ℕ} {r :
 
 -- The parameter that a byte stands for: the code's number is the scanning's.
 pub data Numbered : ℕ → Option ℕ → Type 0 where
-  no : Numbered nowhere none
-  number : {k : ℕ} → k < 36 → Numbered k (some k)
+  no : Numbered nowhere None
+  number : {k : ℕ} → k < 36 → Numbered k (Some k)
 
 pub numbered : (x : ℕ) → Numbered (M.parameter_number x) (parameter_number x)
 numbered x = letter (leb 97 x) (leb x 122) refl
   where
-    digit : (a b : Bool) → leb x 57 ≡ b → Numbered (cond (a && b) (x - 48) nowhere) (cond (a && b) (some (x - 48)) none)
+    digit : (a b : Bool) → leb x 57 ≡ b → Numbered (cond (a && b) (x - 48) nowhere) (cond (a && b) (Some (x - 48)) None)
     digit true true e = let z = leb-true x 57 e in let w : x - 48 < 36 = omega arith in number w
     digit true false e = no
     digit false b e = no
 
     letter : (a b : Bool) → leb x 122 ≡ b
-        → Numbered (cond (a && b) (x - 97 + 10) (cond (is_digit x) (x - 48) nowhere)) (cond (a && b) (some (x - 97 + 10)) (parameter_digit x))
+        → Numbered (cond (a && b) (x - 97 + 10) (cond (is_digit x) (x - 48) nowhere)) (cond (a && b) (Some (x - 97 + 10)) (parameter_digit x))
     letter true true e = let z = leb-true x 122 e in let w : x - 97 + 10 < 36 = omega arith in number w
     letter true false e = digit (leb 48 x) (leb x 57) refl
     letter false b e = digit (leb 48 x) (leb x 57) refl

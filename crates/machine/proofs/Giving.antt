@@ -202,7 +202,7 @@ module _ {n : ℕ} {older : List Definition} {heads whole start : List ℕ} {r :
       (cond (leb (length s.standing.output + length bs) (length start))
       (next (S.with_calls [] (S.with_definitions (oldest (b + count U) s.standing.definitions) (S.with_output (s.standing.output ++ bs) s))))
       (S.ends Outcomes.no_output_left s))
-  given_out bs O none is = go (leb (length s.standing.output + length bs) (length start)) refl
+  given_out bs O None is = go (leb (length s.standing.output + length bs) (length start)) refl
     where
       ix : List ℕ
       ix = removed l heads r.right (address n U)
@@ -224,7 +224,7 @@ module _ {n : ℕ} {older : List Definition} {heads whole start : List ℕ} {r :
           let outEq : (s.standing.output ++ bs) ++ drop (length (s.standing.output ++ bs)) start ≡ O =
           sym (is q ∙ ap (λ (k : ℕ). placed k bs o) a.lies.wrote.written ∙ ap (placed (length s.standing.output) bs) a.lies.wrote.output ∙ overwrite s.standing.output start bs q) in
           let h = subst (λ (k : List Call). Represents n older ix whole start (M.wrote (length bs) (M.released r 0 (address n U) links (count a.since))) (lent l ((s.standing.output ++ bs) ++ drop (length (s.standing.output ++ bs)) start))
-          (S.with_output (s.standing.output ++ bs) (S.with_calls k (S.with_definitions (oldest (b + count U) s.standing.definitions) s)))) none (writes free (gone (without l a.lies.stands.size refl)) bs q) in
+          (S.with_output (s.standing.output ++ bs) (S.with_calls k (S.with_definitions (oldest (b + count U) s.standing.definitions) s)))) None (writes free (gone (without l a.lies.stands.size refl)) bs q) in
           rw (test ∙ ap not e, released)
           (goes refl (subst (λ (k : List ℕ). Represents n older ix whole start (M.wrote (length bs) (M.released r 0 (address n U) links (count a.since))) (lent l k)
           (S.with_output (s.standing.output ++ bs) (S.with_calls [] (S.with_definitions (oldest (b + count U) s.standing.definitions) s)))) outEq h))

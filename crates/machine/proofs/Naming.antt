@@ -4,7 +4,7 @@ use native.Mathlib.Omega.{arith}
 use mathlib.Core.Path.{◌≡◌, refl, ap, ◌∙◌}
 use mathlib.Core.Bool.{Bool, true, false, cond, ◌&&◌}
 use mathlib.Core.List.{List, [], ◌∷◌}
-use mathlib.Core.Option.{Option, none, some}
+use Rattle.std.specs.Prelude.{Option, None, Some}
 use lib.ListN.{length, get_or}
 use lib.Dec.{eqb}
 use lib.IntN.{ℤ}
@@ -103,9 +103,9 @@ Fails (number z) = Unit {0}
 Fails (refused k) = eqb k Outcomes.finished ≡ false
 
 refusal_fails : (op : Operation) (a b : Option ℤ) → Fails (of_operands op a b)
-refusal_fails op none b = refl
-refusal_fails op (some a) none = refl
-refusal_fails op (some a) (some b) = either Fails (divides op && is_zero b) refl (either Fails (in_range (exact op a b)) tt refl)
+refusal_fails op None b = refl
+refusal_fails op (Some a) None = refl
+refusal_fails op (Some a) (Some b) = either Fails (divides op && is_zero b) refl (either Fails (in_range (exact op a b)) tt refl)
 
 -- The results --------------------------------------------------------------------------------------------------------
 

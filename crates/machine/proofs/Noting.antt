@@ -4,7 +4,7 @@ use native.Mathlib.Omega.{arith}
 use mathlib.Core.Path.{◌≡◌, refl, sym, ap, subst, ◌∙◌}
 use mathlib.Core.Bool.{Bool, true, false, ◌||◌, true≢false}
 use mathlib.Core.List.{List, [], ◌∷◌, ◌++◌, append-nil, append_assoc, map, map-append}
-use mathlib.Core.Option.{Option, none, some}
+use Rattle.std.specs.Prelude.{Option, None, Some}
 use lib.ListN.{length, length-append, length-map, length-drop}
 use lib.Dec.{ltb}
 use borrow.Author.Tests.{ltb-false}
@@ -78,8 +78,8 @@ record Own (k : ℕ) (w : Option Writes) (s : State) : Type 0 where
 
 own : (k : ℕ) (w : Option Writes) (s : State) → RuleIs k w → Own k w s
 unfolding repeated
-own k none s h = record { count = refl; reads = refl; rules = refl }
-own k (some w) s h = record {
+own k None s h = record { count = refl; reads = refl; rules = refl }
+own k (Some w) s h = record {
   count = length-map w.bytes _;
   reads = same_each (λ (o : Origin). o.read) s.standing.read w.rule s.standing.read (λ b. refl) w.bytes;
   rules = same_each (λ (o : Origin). o.rule) s.standing.read w.rule k (λ b. h) w.bytes;
@@ -108,7 +108,7 @@ module _ (T : Table) (text first : Bytes) (n : ℕ) where
     pub rules : length first ≤ length ns₀.rules
 
   module _ {due₀ : ℕ} {s₀ : State} {written₀ : ℕ} {ns₀ : Numbers} {r : Run} {ix : List ℕ} {m : Lent} {ns : Numbers} {until : ℕ}
-      (x : Tracing due₀ s₀ written₀ ns₀ r ix m ns until) (some : r.counts.scans < until) (a : Indexed) (e : a ≡ step r T text ix m) where
+      (x : Tracing due₀ s₀ written₀ ns₀ r ix m ns until) (Some : r.counts.scans < until) (a : Indexed) (e : a ≡ step r T text ix m) where
     abbrev s : State
     s = x.state
 
@@ -175,13 +175,13 @@ module _ (T : Table) (text first : Bytes) (n : ℕ) where
       where
         go : (t : Step) → scan L G s ≡ t → SimulatesIndexed n built_ins text first a t → ns ≡ noted_from written₀ (origins_from L G due₀ (next s₀)) ns₀
         go (stop y) q (stops h) =
-            let none : origins_from L G due₀ (next s₀) ≡ x.done =
+            let None : origins_from L G due₀ (next s₀) ≡ x.done =
             due
             ∙ ap (λ (t : Step). x.done ++ (scan_origins (writes G s) t ++ origins_from L G (until - (r.counts.scans + 1)) t)) q
             ∙ ap (λ (os : List Origin). x.done ++ (os ++ origins_from L G (until - (r.counts.scans + 1)) (stop y))) (none_at_end L G (writes G s) y)
             ∙ ap (λ (os : List Origin). x.done ++ os) (origins_stop L G (until - (r.counts.scans + 1)) y)
             ∙ append-nil x.done in
-            x.numbers ∙ ap (λ (os : List Origin). noted_from written₀ os ns₀) (sym none)
+            x.numbers ∙ ap (λ (os : List Origin). noted_from written₀ os ns₀) (sym None)
         go (next s₁) q (simulates g h) = absurd (out g)
 
   -- before the first scan nothing is noted
@@ -209,8 +209,8 @@ module _ (T : Table) (text first : Bytes) (n : ℕ) where
       → Tracing due₀ s₀ written₀ ns₀ r ix m ns until → until ≤ r.counts.scans → ns ≡ noted_from written₀ (origins_from L G due₀ (next s₀)) ns₀
   unfolding origins_from
   traced_all {written₀ = written₀} {ns₀} {r} {until = until} x over =
-      let none : until - r.counts.scans ≡ 0 = omega arith in
-      let is = x.all ∙ ap (λ (j : ℕ). x.done ++ origins_from L G j (next x.state)) none ∙ append-nil x.done in
+      let None : until - r.counts.scans ≡ 0 = omega arith in
+      let is = x.all ∙ ap (λ (j : ℕ). x.done ++ origins_from L G j (next x.state)) None ∙ append-nil x.done in
       x.numbers ∙ ap (λ (os : List Origin). noted_from written₀ os ns₀) (sym is)
 
 -- Whatever state was held at first --------------------------------------------------------------------------------

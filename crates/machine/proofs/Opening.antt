@@ -310,17 +310,17 @@ module _ {n : ℕ} {older : List Definition} {heads whole start : List ℕ} {r :
       → f [] ≡ S.put (limits_of n (length start)) (x ∷ []) s
       → ((c : Call) (cs : List Call) → s.calls ≡ c ∷ cs → Collects n (length older) h.frames → Simulates n older heads whole start a (f (c ∷ cs)))
       → Simulates n older heads whole start (cond (eqb r.calls.call nowhere) (M.write r x (lent l o)) a) (f s.calls)
-  by_calls x a f none some = go (calls n (length older) h.frames) refl
+  by_calls x a f None Some = go (calls n (length older) h.frames) refl
     where
       go : (cs : List Call) → calls n (length older) h.frames ≡ cs → Simulates n older heads whole start (cond (eqb r.calls.call nowhere) (M.write r x (lent l o)) a) (f s.calls)
       go [] e =
           let q : eqb r.calls.call nowhere ≡ true = eq-eqb _ _ (ap (λ (p : Places). p.call) h.places_are ∙ no_call n (length older) h.frames e) in
           let p : Simulates n older heads whole start (M.write r x (lent l o)) (S.put (limits_of n (length start)) (x ∷ []) s) = rw q at (put_byte free h x) in
-          subst (λ (z : List Call). Simulates n older heads whole start (cond (eqb r.calls.call nowhere) (M.write r x (lent l o)) a) (f z)) (sym (h.calls_are ∙ e)) (rw (q, none) p)
+          subst (λ (z : List Call). Simulates n older heads whole start (cond (eqb r.calls.call nowhere) (M.write r x (lent l o)) a) (f z)) (sym (h.calls_are ∙ e)) (rw (q, None) p)
       go (k ∷ cs) e =
           let p : Collects n (length older) h.frames = rw e (omega arith) in
           subst (λ (z : List Call). Simulates n older heads whole start (cond (eqb r.calls.call nowhere) (M.write r x (lent l o)) a) (f z)) (sym (h.calls_are ∙ e))
-          (rw (call_is free h p) (some k cs (h.calls_are ∙ e) p))
+          (rw (call_is free h p) (Some k cs (h.calls_are ∙ e) p))
 
   -- `,`
   pub separate_sim : (x : ℕ) → Simulates n older heads whole start (M.separate r x (lent l o)) (S.separate (limits_of n (length start)) s.calls x s)
@@ -338,7 +338,7 @@ module _ {n : ℕ} {older : List Definition} {heads whole start : List ℕ} {r :
   pub by_bodies_in : {A : Type 0} (P : A → Step → Type 0) (a c : A) (f : List Body → Step) → (s.bodies ≡ [] → P a (f []))
       → ((B : Body) (Bs : List Body) → s.bodies ≡ B ∷ Bs → P c (f (B ∷ Bs)))
       → P (cond (eqb r.source.list nowhere) a c) (f s.bodies)
-  by_bodies_in P a c f none some = go (bodies n (length older) h.frames) refl
+  by_bodies_in P a c f None Some = go (bodies n (length older) h.frames) refl
     where
       fs : List Frame
       fs = h.frames
@@ -349,31 +349,31 @@ module _ {n : ℕ} {older : List Definition} {heads whole start : List ℕ} {r :
       go : (Bs : List Body) → bodies n (length older) h.frames ≡ Bs → P (cond (eqb r.source.list nowhere) a c) (f s.bodies)
       go [] e =
           let q : eqb r.source.list nowhere ≡ true = eq-eqb _ _ (list_is ∙ in_text n (length older) fs e) in
-          subst (λ (z : List Body). P (cond (eqb r.source.list nowhere) a c) (f z)) (sym (h.bodies_are ∙ e)) (rw q (none (h.bodies_are ∙ e)))
+          subst (λ (z : List Body). P (cond (eqb r.source.list nowhere) a c) (f z)) (sym (h.bodies_are ∙ e)) (rw q (None (h.bodies_are ∙ e)))
       go (B ∷ Bs) e =
           let p : Reads n (length older) fs = rw e (omega arith) in
           let k : r.source.list < nowhere = omega (arith, list_is, list_inside n (length older) h.cells_lent fs p (omega (arith, h.lies.stands.right)), h.cells_lent) in
           let q : eqb r.source.list nowhere ≡ false = ne_eqb r.source.list nowhere (λ (z : r.source.list ≡ nowhere). absurd (omega arith)) in
-          subst (λ (z : List Body). P (cond (eqb r.source.list nowhere) a c) (f z)) (sym (h.bodies_are ∙ e)) (rw q (some B Bs (h.bodies_are ∙ e)))
+          subst (λ (z : List Body). P (cond (eqb r.source.list nowhere) a c) (f z)) (sym (h.bodies_are ∙ e)) (rw q (Some B Bs (h.bodies_are ∙ e)))
 
   pub by_bodies : (a c : After) (f : List Body → Step) → (s.bodies ≡ [] → Simulates n older heads whole start a (f []))
       → ((B : Body) (Bs : List Body) → s.bodies ≡ B ∷ Bs → Simulates n older heads whole start c (f (B ∷ Bs)))
       → Simulates n older heads whole start (cond (eqb r.source.list nowhere) a c) (f s.bodies)
-  by_bodies a c f none some = by_bodies_in (Simulates n older heads whole start) a c f none some
+  by_bodies a c f None Some = by_bodies_in (Simulates n older heads whole start) a c f None Some
 
   -- the same of calls, for answers that differ by that alone
   pub by_call : (a c : After) (f : List Call → Step) → Simulates n older heads whole start a (f [])
       → ((k : Call) (ks : List Call) → Simulates n older heads whole start c (f (k ∷ ks)))
       → Simulates n older heads whole start (cond (eqb r.calls.call nowhere) a c) (f s.calls)
-  by_call a c f none some = go (calls n (length older) h.frames) refl
+  by_call a c f None Some = go (calls n (length older) h.frames) refl
     where
       go : (ks : List Call) → calls n (length older) h.frames ≡ ks → Simulates n older heads whole start (cond (eqb r.calls.call nowhere) a c) (f s.calls)
       go [] e =
           let q : eqb r.calls.call nowhere ≡ true = eq-eqb _ _ (ap (λ (p : Places). p.call) h.places_are ∙ no_call n (length older) h.frames e) in
-          subst (λ (z : List Call). Simulates n older heads whole start (cond (eqb r.calls.call nowhere) a c) (f z)) (sym (h.calls_are ∙ e)) (rw q none)
+          subst (λ (z : List Call). Simulates n older heads whole start (cond (eqb r.calls.call nowhere) a c) (f z)) (sym (h.calls_are ∙ e)) (rw q None)
       go (k ∷ ks) e =
           let p : Collects n (length older) h.frames = rw e (omega arith) in
-          subst (λ (z : List Call). Simulates n older heads whole start (cond (eqb r.calls.call nowhere) a c) (f z)) (sym (h.calls_are ∙ e)) (rw (call_is free h p) (some k ks))
+          subst (λ (z : List Call). Simulates n older heads whole start (cond (eqb r.calls.call nowhere) a c) (f z)) (sym (h.calls_are ∙ e)) (rw (call_is free h p) (Some k ks))
 
   -- an unquoted `>`
   pub unquote_sim : (x : ℕ) → Simulates n older heads whole start (M.unquote r x (lent l o)) (S.unquote (limits_of n (length start)) s.bodies s.calls x s)

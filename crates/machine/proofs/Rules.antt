@@ -4,7 +4,7 @@ use native.Mathlib.Omega.{arith}
 use mathlib.Core.Path.{◌≡◌, refl, sym, ap, subst, ◌∙◌}
 use mathlib.Core.Bool.{Bool, true, false, cond, true≢false}
 use mathlib.Core.List.{List, [], ◌∷◌, ◌++◌, append_assoc}
-use mathlib.Core.Option.{Option, none, some}
+use Rattle.std.specs.Prelude.{Option, None, Some}
 use lib.ListN.{length, take, drop, get_or, length-append, length-drop, take-append-drop}
 use lib.Seq.{drop-append-le, drop-append-add, take_at}
 use lib.Dec.{eqb, ltb}
@@ -43,8 +43,8 @@ use Rattle.machine.proofs.Simulating.{first_octet, innermost_octets}
 
 -- what is written, is written by this rule
 abbrev pub RuleIs : ℕ → Option Writes → Type 0
-RuleIs k none = Unit {0}
-RuleIs k (some w) = w.rule ≡ k
+RuleIs k None = Unit {0}
+RuleIs k (Some w) = w.rule ≡ k
 
 -- only `~` outside of quotes fetches
 outside_fetches : (a b c d e f : Bool) → outside (cond a dollar (cond b comma (cond c semicolon (cond d tilde (cond e quote (cond f unquote plain)))))) ≡ fetches → d ≡ true
@@ -136,12 +136,12 @@ module _ {n : ℕ} {heads whole start : List ℕ} {r : Run} {l o : List ℕ} {s 
       let b = length built_ins in
       let fs = h.frames in
       let are : calls n b fs ≡ c ∷ cs = sym h.calls_are ∙ e in
-      let some : Collects n b fs = rw are (omega arith) in
+      let Some : Collects n b fs = rw are (omega arith) in
       let x = arguments_of n b fs c cs are in
       let low = lefts n b fs in
       let rest = drop r.calls.left l in
       let whole' : l ≡ low ++ rest = sym (take-append-drop r.calls.left l) ∙ ap (λ (y : List ℕ). y ++ rest) h.lefts_are in
-      let inside : r.calls.call + 3 ≤ length low = omega (arith, call_eq, call_before n b fs some, left_is n b fs) in
+      let inside : r.calls.call + 3 ≤ length low = omega (arith, call_eq, call_before n b fs Some, left_is n b fs) in
       let d : drop (r.calls.call + 3) l ≡ encode_arguments (a ∷ more) ++ (x.behind ++ rest) =
       ap (drop (r.calls.call + 3)) whole'
       ∙ drop-append-le (r.calls.call + 3) low rest inside
@@ -226,8 +226,8 @@ module _ {n : ℕ} {heads whole start : List ℕ} {r : Run} {l o : List ℕ} {s 
         no_put rule bs = subst (λ (y : List Call). RuleIs given (puts y rule bs)) (sym same) (none-put rule bs)
 
         number : (j : Option ℕ) (list : List Bytes) → RuleIs given (O.fetching_number j list s₁)
-        number none list = tt
-        number (some j) list = no_put O.fetched (parameter j list)
+        number None list = tt
+        number (Some j) list = no_put O.fetched (parameter j list)
 
         in_body : (t : Bytes) (list : List Bytes) → RuleIs given (O.fetching_in G t list s₁)
         in_body [] list = tt
@@ -293,8 +293,8 @@ module _ {n : ℕ} {heads whole start : List ℕ} {r : Run} {l o : List ℕ} {s 
             to (c ∷ cs) bs = tt
 
             number : (j : Option ℕ) → RuleIs O.fetched (O.fetching_number j B.list (S.with_bodies (S.with_rest t B ∷ Bs) s))
-            number none = tt
-            number (some j) = to s.calls (parameter j B.list)
+            number None = tt
+            number (Some j) = to s.calls (parameter j B.list)
 
         kind : (k : ℕ) (d : Bool) → eqb k 4 ≡ d
             → RuleIs (cond d O.fetched O.copied_from_body) (taken (language T) (outside (sign_of_kind k)) x (S.with_bodies (S.with_rest t B ∷ Bs) s))
@@ -317,8 +317,8 @@ module _ {n : ℕ} {heads whole start : List ℕ} {r : Run} {l o : List ℕ} {s 
   in_body B Bs e =
       let b = length built_ins in
       let fs = h.frames in
-      let some : Reads n b fs = rw (sym h.bodies_are ∙ e) (omega arith) in
-      let k = list_inside n b h.cells_lent fs some (omega (arith, h.lies.stands.right)) in
+      let Some : Reads n b fs = rw (sym h.bodies_are ∙ e) (omega arith) in
+      let k = list_inside n b h.cells_lent fs Some (omega (arith, h.lies.stands.right)) in
       let q : r.source.list ≡ (places n b fs).list = ap (λ (p : Places). p.list) h.places_are in
       ne_eqb r.source.list nowhere (λ z. absurd (omega (arith, h.cells_lent)))
 
@@ -352,5 +352,5 @@ module _ {n : ℕ} {heads whole start : List ℕ} {r : Run} {l o : List ℕ} {s 
       go : (cs : List Call) → s.calls ≡ cs → RuleIs (rule r T l) (O.taken_from (language T) s.bodies s.text s)
       go [] e = rw (no_call_is e) (none_open e s.bodies refl)
       go (c ∷ cs) e =
-          let some : Collects n (length built_ins) h.frames = rw (sym h.calls_are ∙ e) (omega arith) in
-          rw (call_is built_ins_free h some) (some_open c cs e s.bodies s.text)
+          let Some : Collects n (length built_ins) h.frames = rw (sym h.calls_are ∙ e) (omega arith) in
+          rw (call_is built_ins_free h Some) (some_open c cs e s.bodies s.text)

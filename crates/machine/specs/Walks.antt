@@ -1,6 +1,6 @@
 -- Walks over lent cells: what each function answers, exactly, for any content of the cells. A walk makes at most so many turns.
 use Rattle.std.specs.Prelude.{ℕ, zero, suc, ◌+◌, ◌*◌, ◌/◌, ◌%◌, Bool, true, false, cond, List, [], ◌∷◌, length, get_or, set, eqb, leb, ltb, ℤ}
-use Rattle.std.proofs.Math.Option.{Option, none}
+use Rattle.std.specs.Prelude.{Option, None}
 use Rattle.memory.specs.Block.{within, block, low_bytes, same_blocks, same_bytes}
 use Rattle.decimal.specs.declared.operations.Operation.{Operation}
 use Rattle.decimal.specs.declared.operations.Answer.{Answer}
@@ -232,7 +232,7 @@ compare l first second = cond (same_blocks first second (get_or l first 0 + 1) l
 
 -- the operand in the argument at a length cell; none where the argument does not lie within the cells
 abbrev pub operand_at : List ℕ → ℕ → Option ℤ
-operand_at l p = cond (within (p + 1) (get_or l p 0) l) (operand (block (p + 1) (get_or l p 0) (low_bytes l))) none
+operand_at l p = cond (within (p + 1) (get_or l p 0) l) (operand (block (p + 1) (get_or l p 0) (low_bytes l))) None
 
 abbrev pub calculate : Operation → List ℕ → ℕ → ℕ → Answer
 calculate op l first second = answer_of (of_operands op (operand_at l first) (operand_at l second))

@@ -39,5 +39,5 @@ unfolding last_below
 returns c =
     let a = c.args in
     let l = c.loop-due in
-    let none : l.due ≡ 0 = omega arith in
-    sym (l.invariant.1 ∙ ap (λ (n : ℕ). last_below n (has_kind a.signs.now a.kind)) none)
+    let None : l.due ≡ 0 = omega arith in
+    sym (l.invariant.1 ∙ ap (λ (n : ℕ). last_below n (has_kind a.signs.now a.kind)) None)

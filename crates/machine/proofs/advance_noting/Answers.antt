@@ -73,15 +73,15 @@ loop-run-preserved c =
     let left = c.args.from.counts.scans + c.args.due - c.loop-run.run.counts.scans in
     let l = c.loop-run.invariant in
     let g = l.0 in
-    let some = c.loop-run-test.true in
+    let Some = c.loop-run-test.true in
     let at = c.at_once-at_once.ensures in
     let on = c.in-GoesOn.is in
-    let few = (at_once_few quiet left (omega (arith, some))).0 in
+    let few = (at_once_few quiet left (omega (arith, Some))).0 in
     let is = rw at at c.advance-st.ensures.1 in
     let scans = rw at at (c.advance-st.ensures.2 on) in (
       more _ _ _ _ g _ few _ _ _ is (omega (arith, c.cells-1.given, g.cells)) (omega (arith, c.output-1.given, g.output)) (λ i. (c.type_inv.cells i).fits) on scans
           (rw (g.cells, g.output) at (c.advance-st.ensures.0.ranged on)),
-      noted_on _ _ _ _ _ _ _ l.1 quiet l.4 left some _ is on scans c.rule-rule.ensures c.note.ensures,
+      noted_on _ _ _ _ _ _ _ l.1 quiet l.4 left Some _ is on scans c.rule-rule.ensures c.note.ensures,
       omega (arith, c.origins-1.given, l.2),
       omega (arith, c.rules-1.given, l.3),
       l.4,

@@ -75,5 +75,5 @@ pub returns-in_default : goal.returns-in_default
 unfolding named_among
 returns-in_default c =
     let n = c.in_default.in_default-own.rest in
-    let none = of_no_group c.group-group.result n.0.0.0.0.0.0.0.0.1 n.0.0.0.0.0.0.0.1 n.0.0.0.0.0.0.1 n.0.0.0.0.0.1 n.0.0.0.0.1 n.0.0.0.1 n.0.0.1 n.0.1 n.1 in
-    of_its_group c.args.cells.now c.args.name c.group-group.result c.read-count.ensures c.group-group.ensures.0 refl (rw none)
+    let None = of_no_group c.group-group.result n.0.0.0.0.0.0.0.0.1 n.0.0.0.0.0.0.0.1 n.0.0.0.0.0.0.1 n.0.0.0.0.0.1 n.0.0.0.0.1 n.0.0.0.1 n.0.0.1 n.0.1 n.1 in
+    of_its_group c.args.cells.now c.args.name c.group-group.result c.read-count.ensures c.group-group.ensures.0 refl (rw None)

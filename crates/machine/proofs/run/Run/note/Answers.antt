@@ -16,5 +16,5 @@ returns-then-end-from c =
 pub returns-else-end-from : goal.returns-else-end-from
 returns-else-end-from c =
     let a = c.args in
-    let none : a.after.counts.written - a.self.counts.written ≡ 0 = omega arith in
-    rw (c.if-silent.false, none, filled_none a.self.counts.written (cell a.after.counts.read) a.origins.now, filled_none a.self.counts.written a.rule a.rules.now)
+    let None : a.after.counts.written - a.self.counts.written ≡ 0 = omega arith in
+    rw (c.if-silent.false, None, filled_none a.self.counts.written (cell a.after.counts.read) a.origins.now, filled_none a.self.counts.written a.rule a.rules.now)
