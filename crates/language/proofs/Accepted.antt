@@ -118,17 +118,17 @@ single_counts (suc n) test s = go (test n) refl (single_counts n test)
 -- How far a search among the numbers below n has come: the test holds of none below k.
 pub record Searched (n : ℕ) (test : ℕ → Bool) (k : ℕ) : Type 0 where
   pub inside : k ≤ n
-  pub None : some_below k test ≡ false
+  pub none : some_below k test ≡ false
 
 pub searched_start : {n : ℕ} {test : ℕ → Bool} → Searched n test 0
 unfolding some_below
-searched_start = record { inside = zero-le; None = refl }
+searched_start = record { inside = zero-le; none = refl }
 
 pub searched_step : {n k : ℕ} {test : ℕ → Bool} → Searched n test k → k < n → test k ≡ false → Searched n test (k + 1)
 unfolding some_below
 searched_step {n} {k} {test} s h e =
     let next : k + 1 ≡ suc k = omega arith in
-    rw next (record { inside = omega arith; None = ap (λ (t : Bool). cond t true (some_below k test)) e ∙ s.none })
+    rw next (record { inside = omega arith; none = ap (λ (t : Bool). cond t true (some_below k test)) e ∙ s.none })
 
 pub searched_end : {n k : ℕ} {test : ℕ → Bool} → Searched n test k → n ≤ k → some_below n test ≡ false
 searched_end {n} {k} {test} s h = let all : n ≡ k = omega (arith, s.inside) in ap (λ (j : ℕ). some_below j test) all ∙ s.none
