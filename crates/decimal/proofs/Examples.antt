@@ -4,12 +4,16 @@ use mathlib.Core.Path.{◌≡◌, refl}
 use mathlib.Core.Bool.{Bool, true, false, cond, ◌&&◌}
 use mathlib.Core.List.{List, [], ◌∷◌, ◌++◌}
 use lib.Dec.{eqb}
+use lib.IntN.{ℤ}
 use lib.ListN.{replicate}
+use Rattle.std.specs.Prelude.{Result, Ok, Err}
 use Rattle.decimal.specs.declared.operations.Operation.{Operation}
 use Rattle.decimal.specs.declared.operations.Operation.TheVariants.{Sum, Difference, Product, Quotient, Remainder}
+use Rattle.decimal.specs.declared.operations.Refusal.{Refusal}
+use Rattle.decimal.specs.Refusals.{number_of}
 use Rattle.decimal.specs.Operand.{digits_from, operand}
 use Rattle.decimal.specs.Shortest.{digits_of, shortest}
-use Rattle.decimal.specs.Arithmetic.{Result, number, refused, calculated}
+use Rattle.decimal.specs.Arithmetic.{calculated}
 
 -- one case
 record Case : Type 0 where
@@ -20,14 +24,14 @@ record Case : Type 0 where
   text : List ℕ
 
 -- the outcome of a result
-outcome_of : Result → ℕ
-outcome_of (number z) = 0
-outcome_of (refused outcome) = outcome
+outcome_of : Result ℤ Refusal → ℕ
+outcome_of (Ok z) = 0
+outcome_of (Err refusal) = number_of refusal
 
 -- the text of a result
-text_of : Result → List ℕ
-text_of (number z) = shortest z
-text_of (refused outcome) = []
+text_of : Result ℤ Refusal → List ℕ
+text_of (Ok z) = shortest z
+text_of (Err refusal) = []
 
 -- two texts are the same
 same : List ℕ → List ℕ → Bool

@@ -5,7 +5,7 @@ use mathlib.Core.Path.{◌≡◌, refl, sym, ap, ◌∙◌}
 use mathlib.Core.Logic.{inl, inr}
 use mathlib.Core.Bool.{Bool, true, false, cond, ◌&&◌}
 use mathlib.Core.List.{List, [], ◌∷◌}
-use Rattle.std.specs.Prelude.{Option, None, Some}
+use Rattle.std.specs.Prelude.{Option, None, Some, Ok, Err}
 use native.Mathlib.Omega.{arith}
 use native.Mathlib.Nat.{pow-suc, mul-le-mul_right}
 use borrow.Author.Tests.{ne_eqb, leb-true}
@@ -19,11 +19,13 @@ use Rattle.decimal.proofs.Digits.{by_digits, digits_small, digits_step, digits_s
 use Rattle.decimal.proofs.Texts.{filled_text}
 use Rattle.decimal.proofs.Bytes.{Each, Digit, OfDecimal, Unmarked, each_append, each_weaken}
 use Rattle.decimal.specs.declared.operations.Operation.{Operation}
+use Rattle.decimal.specs.declared.operations.Refusal.{Refusal}
+use Rattle.decimal.specs.declared.operations.Refusal.TheVariants.{DivisorZero, ResultOutOfRange}
 use Rattle.decimal.specs.Operand.{is_digit, digits_from, one_or_more, positive, negative, worth, in_range, operand}
 use Rattle.decimal.specs.Operand.{ranged as rangedOperand}
 use Rattle.decimal.specs.Shortest.{digits_of, digits, shortest}
 use Rattle.decimal.specs.Answers.{decimal_of}
-use Rattle.decimal.specs.Arithmetic.{number, refused, divides, is_zero, exact, ranged, of_operands, calculated}
+use Rattle.decimal.specs.Arithmetic.{divides, is_zero, exact, ranged, of_operands, calculated}
 
 -- nothing is no number
 pub none_some : {A : Type 0} {a : A} → None ≡ Some a → ⊥
@@ -142,25 +144,25 @@ unfolding operand
 operand_least t z e = worth_least t z (operand-worth (worth t) z e)
 
 -- a refusal is no number
-pub no_number : (n : ℕ) (z : ℤ) → refused n ≡ number z → ⊥
-no_number n z e = let q : ◌≡◌ {A = ℕ} 0 1 = cc in omega arith
+pub no_number : (refusal : Refusal) (z : ℤ) → Err refusal ≡ Ok z → ⊥
+no_number refusal z e = let q : ◌≡◌ {A = ℕ} 0 1 = cc in omega arith
 
 -- a number that is ranged is in range
-ranged_in : (t : Bool) (x z : ℤ) → in_range x ≡ t → cond t (number x) (refused 24) ≡ number z → T (in_range z)
+ranged_in : (t : Bool) (x z : ℤ) → in_range x ≡ t → cond t (Ok x) (Err ResultOutOfRange) ≡ Ok z → T (in_range z)
 ranged_in true x z h e = let q : x ≡ z = cc in rw (← q) (holds h)
 ranged_in false x z h e = absurd (no_number _ z e)
 
 -- and so is a result of two numbers
-numbers_in : (zero : Bool) (x z : ℤ) → cond zero (refused 23) (ranged x) ≡ number z → T (in_range z)
+numbers_in : (zero : Bool) (x z : ℤ) → cond zero (Err DivisorZero) (ranged x) ≡ Ok z → T (in_range z)
 numbers_in true x z e = absurd (no_number _ z e)
 numbers_in false x z e = ranged_in (in_range x) x z refl e
 
 -- and of two operands
-operands_in : (op : Operation) (a b : Option ℤ) (z : ℤ) → of_operands op a b ≡ number z → T (in_range z)
+operands_in : (op : Operation) (a b : Option ℤ) (z : ℤ) → of_operands op a b ≡ Ok z → T (in_range z)
 operands_in op None b z e = absurd (no_number _ z e)
 operands_in op (Some a) None z e = absurd (no_number _ z e)
 operands_in op (Some a) (Some b) z e = numbers_in (divides op && is_zero b) (exact op a b) z e
 
 -- every result is in range
-pub result_in_range : (op : Operation) (first second : List ℕ) (z : ℤ) → calculated op first second ≡ number z → T (in_range z)
+pub result_in_range : (op : Operation) (first second : List ℕ) (z : ℤ) → calculated op first second ≡ Ok z → T (in_range z)
 result_in_range op first second z e = operands_in op (operand first) (operand second) z e

@@ -119,13 +119,17 @@ exact_fits Product a b h f g = record { sfits = omega (arith, mag_product a b, p
 exact_fits Quotient a b h f g = absurd h
 exact_fits Remainder a b h f g = absurd h
 
--- a number of 32 bits, cast to 64 and read there
-abbrev pub wide : ℤ → ℤ
-wide z = to_z w64 (of_z w64 (to_z w32 (of_z w32 z)))
-
 -- what fits 32 bits fits 64
 widen : {z : ℤ} → SFits w32 z → SFits w64 z
 widen f = record { sfits = omega (arith, f.sfits) }
+
+-- the product of two numbers of 32 bits, taken in 64 bits, is the integers'
+pub product_is : {a b x y : ℤ} → SFits w32 a → SFits w32 b → x ≡ to_z w32 (of_z w32 a) → y ≡ to_z w32 (of_z w32 b) → to_z w64 (of_z w64 (to_z w64 (of_z w64 x) *ℤ to_z w64 (of_z w64 y))) ≡ a *ℤ b
+product_is {a} {b} f g p q = rw (p, q, to_z-of_z f, to_z-of_z g, to_z-of_z (widen f), to_z-of_z (widen g)) (to_z-of_z (exact_fits Product a b tt f g))
+
+-- a number of 32 bits, cast to 64 and read there
+abbrev pub wide : ℤ → ℤ
+wide z = to_z w64 (of_z w64 (to_z w32 (of_z w32 z)))
 
 -- so the cast fits
 pub cast_fits : {z : ℤ} → SFits w32 z → SFits w64 (to_z w32 (of_z w32 z))

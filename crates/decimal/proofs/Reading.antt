@@ -14,7 +14,6 @@ use Rattle.decimal.specs.declared.reader.Stage.{Stage}
 use Rattle.decimal.specs.declared.reader.Stage.TheVariants.{Start, Signed, Digits, Refused}
 use Rattle.decimal.specs.declared.reader.Reader.{Reader}
 use Rattle.decimal.specs.Operand.{is_digit, digits_from, one_or_more, positive, negative, ranged, operand}
-use Rattle.decimal.specs.Arithmetic.{Result, as_result}
 use Rattle.decimal.specs.Reading.{beyond, new_reader, refusing, after_digit, after_sign, after, after_all, Took, signed}
 
 -- what a reader has found, by its stage
@@ -130,6 +129,6 @@ unfolding Took
 took_more r b e bytes h = e ∙ ap (λ (x : Reader). after x b) h ∙ sym (after_all_more new_reader bytes b)
 
 -- what a reader has found is the operand that its bytes are
-pub took_found : (r : Reader) {x : Result} → x ≡ as_result (found r) → (bytes : List ℕ) → Took bytes r → x ≡ as_result (operand bytes)
+pub took_found : (r : Reader) {x : Option ℤ} → x ≡ found r → (bytes : List ℕ) → Took bytes r → x ≡ operand bytes
 unfolding Took
-took_found r e bytes h = e ∙ ap (λ (y : Reader). as_result (found y)) h ∙ ap as_result (reading bytes)
+took_found r e bytes h = e ∙ ap found h ∙ reading bytes

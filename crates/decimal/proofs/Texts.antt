@@ -12,21 +12,16 @@ use mir.Syntax.{w32}
 use mir.Val.{SFits, of_z, to_z}
 use mir.Facts.{to_z-of_z}
 use Rattle.decimal.proofs.Digits.{digits_step, digits-count}
-use Rattle.decimal.specs.declared.shortest.Decimal.{Decimal}
+use Rattle.decimal.specs.declared.shortest.Decimal.TheInside.{Inside}
 use Rattle.decimal.specs.Shortest.{digits, shortest}
-use Rattle.decimal.specs.Answers.{filled, decimal_of}
+use Rattle.decimal.specs.Answers.{text_in, filled, decimal_of}
 
 -- a byte stored past the text is the text with that byte
-filled_more : (n : ℕ) (t : List ℕ) (b : ℕ) → length t < n → set (filled n t) (length t) b ≡ filled n (t ++ (b ∷ []))
+pub filled_more : (n : ℕ) (t : List ℕ) (b : ℕ) → length t < n → set (filled n t) (length t) b ≡ filled n (t ++ (b ∷ []))
 unfolding filled
 filled_more zero t b h = absurd (omega arith)
 filled_more (suc n) [] b h = refl
 filled_more (suc n) (a ∷ t) b h = ap (◌∷◌ a) (filled_more n t b (omega arith))
-
--- what `with` makes of a decimal that holds a text
-pub decimal_more : (d : Decimal) (t : List ℕ) (b : ℕ) → d ≡ decimal_of t → length t < 11
-    → record { bytes = set d.bytes d.len b; len = d.len + 1 } ≡ decimal_of (t ++ (b ∷ []))
-decimal_more d t b e h = rw (e, filled_more 11 t b h, length-append)
 
 -- digits behind a text, all but the last and then the last
 pub digits_behind : (t : List ℕ) (n : ℕ) → 10 ≤ n → (t ++ digits (n / 10)) ++ ((48 + n % 10) ∷ []) ≡ t ++ digits n
@@ -70,3 +65,29 @@ unfolding filled
 filled-length zero t = refl
 filled-length (suc n) [] = ap suc (filled-length n [])
 filled-length (suc n) (b ∷ t) = ap suc (filled-length n t)
+
+-- a decimal of a text holds all of it
+pub text_of_decimal : (t : List ℕ) → length t ≤ 11 → text_in (decimal_of t) ≡ t
+text_of_decimal t h = filled_text 11 t h
+
+-- the fields with a byte stored behind the text
+abbrev pub with_byte : Inside → ℕ → Inside
+with_byte d b = record { bytes = set d.bytes d.len b; len = d.len + 1 }
+
+-- they are those of the longer text
+pushed : (d : Inside) (b : ℕ) → decimal_of (text_in d) ≡ d → length (text_in d) < 11 → with_byte d b ≡ decimal_of (text_in d ++ (b ∷ []))
+pushed d b e h = go (text_in d) e h
+  where
+    go : (t : List ℕ) → decimal_of t ≡ d → length t < 11 → with_byte d b ≡ decimal_of (t ++ (b ∷ []))
+    go t q k = rw (← q, filled_more 11 t b k, length-append)
+
+-- so they stay those of a decimal
+pub pushed_keeps : (d : Inside) (b : ℕ) → decimal_of (text_in d) ≡ d → length (text_in d) < 11
+    → ((with_byte d b).len ≤ 11) × (decimal_of (text_in (with_byte d b)) ≡ with_byte d b)
+pushed_keeps d b e h = go (with_byte d b) (pushed d b e h)
+  where
+    go : (x : Inside) → x ≡ decimal_of (text_in d ++ (b ∷ [])) → (x.len ≤ 11) × (decimal_of (text_in x) ≡ x)
+    go x q =
+        let t = text_in d ++ (b ∷ []) in
+        let short : length t ≤ 11 = omega (arith, length-append (text_in d) (b ∷ [])) in
+        rw q (short, ap decimal_of (text_of_decimal t short))

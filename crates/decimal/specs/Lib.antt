@@ -1,3 +1,4 @@
+pub mod Refusals
 pub mod Operand
 pub mod Shortest
 pub mod Arithmetic

@@ -1,12 +1,12 @@
 // The five operations on operands that were read.
-ghost use Rattle.std.specs.Prelude.{◌≡◌, ◌≢◌, pos, negsuc, neg_ℤ};
-ghost use Rattle.decimal.specs.Arithmetic.{Division, number, refused, of_results, of_numbers, ranged};
-ghost use Rattle.decimal.specs.Answers.{answer_of, result_in};
+ghost use Rattle.std.specs.Prelude.{◌≡◌, ◌≢◌, pos, negsuc, Err};
+ghost use Rattle.decimal.specs.Refusals.{number_of};
+ghost use Rattle.decimal.specs.Arithmetic.{Division, of_operands, of_numbers, ranged};
+ghost use Rattle.decimal.specs.Answers.{answer_of};
 
-use crate::reader::Operand;
 use crate::shortest::Decimal;
 
-#[derive(Clone, Copy)]
+#[derive(Clone, Copy, Debug, PartialEq, Eq)]
 pub enum Operation {
     Sum,
     Difference,
@@ -15,81 +15,57 @@ pub enum Operation {
     Remainder,
 }
 
-// The outcome, 0 or 22 to 24, and the result's text, which is empty on a refusal.
-#[derive(Clone, Copy)]
-pub struct Answer {
-    pub outcome: u32,
-    pub decimal: Decimal,
+// Why there is no result: the outcomes 22 to 24.
+#[derive(Clone, Copy, Debug, PartialEq, Eq)]
+pub enum Refusal {
+    NotANumber,
+    DivisorZero,
+    ResultOutOfRange,
+}
+
+impl From<Refusal> for u32 {
+    ghost from_gives = { λ refusal outcome. outcome ≡ number_of refusal };
+
+    fn from(refusal: Refusal) -> u32 {
+        match refusal {
+            Refusal::NotANumber => 22,
+            Refusal::DivisorZero => 23,
+            Refusal::ResultOutOfRange => 24,
+        }
+    }
 }
 
 impl Operation {
     // "First operand's 22, second's 22, 23, 24."
-    pub fn of(self, first: Operand, second: Operand) -> Answer
-        ensures { result ≡ answer_of (of_results self (result_in first) (result_in second)) }
+    pub fn of(self, first: Option<i32>, second: Option<i32>) -> Result<Decimal, Refusal>
+        ensures { result ≡ answer_of (of_operands self first second) }
     {
-        let Operand::Number(a) = first else {
-            return Answer::refused(Answer::NOT_A_NUMBER);
-        };
-        let Operand::Number(b) = second else {
-            return Answer::refused(Answer::NOT_A_NUMBER);
-        };
-        self.of_numbers(a, b)
+        let a = first.ok_or(Refusal::NotANumber)?;
+        let b = second.ok_or(Refusal::NotANumber)?;
+        let number = self.of_numbers(a, b)?;
+        Ok(Decimal::from(number))
     }
 
-    fn of_numbers(self, first: i32, second: i32) -> Answer
-        ensures { result ≡ answer_of (of_numbers self first second) }
+    fn of_numbers(self, first: i32, second: i32) -> Result<i32, Refusal>
+        ensures { result ≡ of_numbers self first second }
     {
-        let a = first as i64;
-        let b = second as i64;
+        let a = i64::from(first);
+        let b = i64::from(second);
         match self {
-            Operation::Sum => Answer::ranged(a + b),
-            Operation::Difference => Answer::ranged(a - b),
-            Operation::Product => Answer::ranged(a * b),
+            Operation::Sum => ranged(a + b),
+            Operation::Difference => ranged(a - b),
+            Operation::Product => ranged(a * b),
             Operation::Quotient => quotient(first, second),
             Operation::Remainder => remainder(first, second),
         }
     }
 }
 
-impl Answer {
-    const GIVEN: u32 = 0;
-
-    const NOT_A_NUMBER: u32 = 22;
-
-    const DIVISOR_ZERO: u32 = 23;
-
-    const RESULT_OUT_OF_RANGE: u32 = 24;
-
-    fn refused(outcome: u32) -> Answer
-        ensures { result ≡ answer_of (refused outcome) }
-    {
-        Answer {
-            outcome,
-            decimal: Decimal::new(),
-        }
-    }
-
-    fn number(value: i32) -> Answer
-        ensures { result ≡ answer_of (number value) }
-    {
-        Answer {
-            outcome: Answer::GIVEN,
-            decimal: Decimal::of(value),
-        }
-    }
-
-    // The number, or 24 where it is out of range.
-    fn ranged(value: i64) -> Answer
-        ensures { result ≡ answer_of (ranged value) }
-    {
-        if value < -2147483648 {
-            return Answer::refused(Answer::RESULT_OUT_OF_RANGE);
-        }
-        if value > 2147483647 {
-            return Answer::refused(Answer::RESULT_OUT_OF_RANGE);
-        }
-        Answer::number(value as i32)
-    }
+// The number, or 24 where it is out of range.
+fn ranged(value: i64) -> Result<i32, Refusal>
+    ensures { result ≡ ranged value }
+{
+    i32::try_from(value).map_err(|_| Refusal::ResultOutOfRange)
 }
 
 // A quotient and a remainder.
@@ -127,38 +103,27 @@ fn divide(dividend: i32, divisor: i32) -> Divided
 }
 
 // The only quotient out of range is that of the smallest number by -1, its negation.
-fn quotient(dividend: i32, divisor: i32) -> Answer
-    ensures { result ≡ answer_of (of_numbers Operation.Quotient dividend divisor) }
+fn quotient(dividend: i32, divisor: i32) -> Result<i32, Refusal>
+    ensures { result ≡ of_numbers Operation.Quotient dividend divisor }
 {
     if divisor == 0 {
-        return Answer::refused(Answer::DIVISOR_ZERO);
+        return Err(Refusal::DivisorZero);
     }
     if divisor == -1 {
-        return negated(dividend);
+        return ranged(-i64::from(dividend));
     }
-    let divided = divide(dividend, divisor);
-    Answer::number(divided.quotient)
-}
-
-fn negated(value: i32) -> Answer
-    ensures { result ≡ answer_of (ranged (neg_ℤ value)) }
-{
-    if value == -2147483648 {
-        return Answer::refused(Answer::RESULT_OUT_OF_RANGE);
-    }
-    Answer::number(-value)
+    Ok(divide(dividend, divisor).quotient)
 }
 
 // By -1 it is 0, also for the smallest number.
-fn remainder(dividend: i32, divisor: i32) -> Answer
-    ensures { result ≡ answer_of (of_numbers Operation.Remainder dividend divisor) }
+fn remainder(dividend: i32, divisor: i32) -> Result<i32, Refusal>
+    ensures { result ≡ of_numbers Operation.Remainder dividend divisor }
 {
     if divisor == 0 {
-        return Answer::refused(Answer::DIVISOR_ZERO);
+        return Err(Refusal::DivisorZero);
     }
     if divisor == -1 {
-        return Answer::number(0);
+        return Ok(0);
     }
-    let divided = divide(dividend, divisor);
-    Answer::number(divided.remainder)
+    Ok(divide(dividend, divisor).remainder)
 }

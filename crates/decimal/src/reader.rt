@@ -1,17 +1,7 @@
 // Reading an operand byte by byte.
-ghost use Rattle.std.specs.Prelude.{◌≡◌, List, [], ◌∷◌, ◌++◌, ℕ, ◌+◌, ◌*◌, min};
-ghost use Rattle.std.specs.Prelude.{Some};
+ghost use Rattle.std.specs.Prelude.{◌≡◌, List, [], ◌∷◌, ◌++◌, ℕ, ◌+◌, ◌*◌, min, Some};
 ghost use Rattle.decimal.specs.Operand.{operand, ranged};
-ghost use Rattle.decimal.specs.Arithmetic.{as_result};
-ghost use Rattle.decimal.specs.Answers.{result_in};
 ghost use Rattle.decimal.specs.Reading.{Took, after_first, after_digit, refusing, beyond, signed as signed_of};
-
-// The number that was read, or that it was none in range.
-#[derive(Clone, Copy)]
-pub enum Operand {
-    Number(i32),
-    NoNumber,
-}
 
 // How far a reader has come.
 #[derive(Clone, Copy)]
@@ -49,11 +39,9 @@ impl Reader {
     pub fn take(self, byte: u8) -> Reader
         ensures { (bytes : List ℕ) → Took bytes self → Took (bytes ++ (byte ∷ [])) result }
     {
-        let stage = self.stage;
-        match stage {
+        match self.stage {
             Stage::Start => self.take_first(byte),
-            Stage::Signed => self.take_digit(byte),
-            Stage::Digits => self.take_digit(byte),
+            Stage::Signed | Stage::Digits => self.take_digit(byte),
             Stage::Refused => self,
         }
     }
@@ -61,59 +49,44 @@ impl Reader {
     fn take_first(self, byte: u8) -> Reader
         ensures { result ≡ after_first self byte }
     {
-        if byte == b'+' {
-            return Reader {
+        match byte {
+            b'+' => Reader {
                 stage: Stage::Signed,
                 negative: false,
-                size: self.size,
-            };
-        }
-        if byte == b'-' {
-            return Reader {
+                ..self
+            },
+            b'-' => Reader {
                 stage: Stage::Signed,
                 negative: true,
-                size: self.size,
-            };
+                ..self
+            },
+            _ => self.take_digit(byte),
         }
-        self.take_digit(byte)
     }
 
     fn take_digit(self, byte: u8) -> Reader
         ensures { result ≡ after_digit self byte }
     {
-        if byte < b'0' {
-            return self.refused();
-        }
-        if byte > b'9' {
-            return self.refused();
-        }
-        Reader {
-            stage: Stage::Digits,
-            negative: self.negative,
-            size: grown(self.size, byte - b'0'),
-        }
-    }
-
-    fn refused(self) -> Reader
-        ensures { result ≡ refusing self }
-    {
-        Reader {
-            stage: Stage::Refused,
-            negative: self.negative,
-            size: self.size,
+        match byte {
+            b'0'..=b'9' => Reader {
+                stage: Stage::Digits,
+                size: grown(self.size, byte - b'0'),
+                ..self
+            },
+            _ => Reader {
+                stage: Stage::Refused,
+                ..self
+            },
         }
     }
 
-    // What the bytes are, if they end here.
-    pub fn finish(self) -> Operand
-        ensures { (bytes : List ℕ) → Took bytes self → result_in result ≡ as_result (operand bytes) }
+    // What the bytes are, if they end here: the number of an operand, or none.
+    pub fn finish(self) -> Option<i32>
+        ensures { (bytes : List ℕ) → Took bytes self → result ≡ operand bytes }
     {
-        let stage = self.stage;
-        match stage {
+        match self.stage {
             Stage::Digits => signed(self.negative, self.size),
-            Stage::Start => Operand::NoNumber,
-            Stage::Signed => Operand::NoNumber,
-            Stage::Refused => Operand::NoNumber,
+            Stage::Start | Stage::Signed | Stage::Refused => None,
         }
     }
 }
@@ -122,45 +95,25 @@ impl Reader {
 fn grown(size: u32, digit: u8) -> u32
     ensures { result ≡ min (10 * size + digit) beyond }
 {
-    let wide = size as u64 * 10 + digit as u64;
-    if wide < Reader::BEYOND {
-        wide as u32
-    } else {
-        Reader::BEYOND as u32
-    }
+    let wide = u64::from(size) * 10 + u64::from(digit);
+    wide.min(Reader::BEYOND) as u32
 }
 
 // The number of this sign and size, where it is in range.
-fn signed(negative: bool, size: u32) -> Operand
-    ensures { result_in result ≡ as_result (ranged (Some (signed_of negative size))) }
+fn signed(negative: bool, size: u32) -> Option<i32>
+    ensures { result ≡ ranged (Some (signed_of negative size)) }
 {
-    if size > 2147483648 {
-        return Operand::NoNumber;
-    }
-    if size == 2147483648 {
-        return if negative {
-            Operand::Number(-2147483648)
-        } else {
-            Operand::NoNumber
-        };
-    }
-    let value = size as i32;
-    if negative {
-        Operand::Number(-value)
-    } else {
-        Operand::Number(value)
-    }
+    let value = i64::from(size);
+    i32::try_from(if negative { -value } else { value }).ok()
 }
 
 // The operand that a whole text is.
-pub(crate) fn read(text: &[u8]) -> Operand
-    ensures { result_in result ≡ as_result (operand text.now) }
+pub(crate) fn read(text: &[u8]) -> Option<i32>
+    ensures { result ≡ operand text.now }
 {
     let mut reader = Reader::new();
-    let mut at = 0;
-    while at < text.len() {
-        reader = reader.take(text[at]);
-        at += 1;
+    for byte in text {
+        reader = reader.take(*byte);
     }
     reader.finish()
 }

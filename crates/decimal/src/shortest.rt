@@ -1,79 +1,96 @@
 // The shortest decimal of a number.
-ghost use Rattle.std.specs.Prelude.{◌≡◌, List, [], ◌∷◌, ◌++◌, ℕ, ◌+◌, ◌≤◌, ◌<◌, nat_abs, length};
+ghost use Rattle.std.specs.Prelude.{◌≡◌, [], ◌∷◌, ◌++◌, ◌+◌, ◌≤◌, ◌<◌, length};
 ghost use Rattle.decimal.specs.Shortest.{digits, shortest};
-ghost use Rattle.decimal.specs.Answers.{decimal_of};
 
-// A text of at most eleven bytes; zero bytes stand past its length.
+use std::marker::Model;
+
+// A text of at most eleven bytes, and in clauses just that text; zero bytes stand past its length.
 #[derive(Clone, Copy)]
 pub struct Decimal {
-    pub bytes: [u8; 11],
-    pub len: usize,
+    bytes: [u8; 11],
+    len: usize,
+}
+
+impl Model for Decimal {
+    ghost use Rattle.std.specs.Prelude.{List, ℕ};
+
+    ghost Value = { List ℕ };
+
+    ghost use Rattle.std.specs.Prelude.{◌≡◌, ◌≤◌};
+    ghost use Rattle.decimal.specs.Answers.{text_in, decimal_of};
+
+    ghost view = { text_in };
+
+    ghost invariant = { λ d. (d.len ≤ 11) × (decimal_of (text_in d) ≡ d) };
+
+    ghost inverse = { decimal_of };
+
+    ghost inverse_ok = { λ d h. h.1 };
 }
 
 impl Decimal {
+    // The text.
+    pub fn as_bytes(&self) -> &[u8]
+        ensures text { result.now ≡ self.now }
+        ensures at_most_eleven { length self.now ≤ 11 }
+    {
+        &self.bytes[..self.len]
+    }
+
     // The empty text.
-    pub(crate) fn new() -> Decimal
-        ensures { result ≡ decimal_of [] }
+    fn new() -> Decimal
+        ensures { result ≡ [] }
     {
         Decimal {
-            bytes: [0u8; 11],
+            bytes: [0; 11],
             len: 0,
         }
     }
 
-    // The shortest decimal of a number.
-    pub(crate) fn of(value: i32) -> Decimal
-        ensures { result ≡ decimal_of (shortest value) }
+    fn push(&mut self, byte: u8)
+        requires { length self.old < 11 }
+        ensures { self.new ≡ self.old ++ (byte ∷ []) }
     {
-        let size = magnitude(value);
-        if value < 0 {
-            return Decimal::new().with(b'-').with_digits(size);
-        }
-        Decimal::of_count(size)
+        self.bytes[self.len] = byte;
+        self.len += 1;
     }
 
-    // The shortest decimal of a count.
-    pub fn of_count(count: u32) -> Decimal
-        ensures { result ≡ decimal_of (digits count) }
-    {
-        Decimal::new().with_digits(count)
-    }
-
-    // One byte more, where there is room.
-    fn with(self, byte: u8) -> Decimal
-        ensures { (t : List ℕ) → self ≡ decimal_of t → length t < 11 → result ≡ decimal_of (t ++ (byte ∷ [])) }
-    {
-        let at = self.len;
-        if at >= 11 {
-            return self;
-        }
-        let mut next = self;
-        next.bytes[at] = byte;
-        next.len = at + 1;
-        next
-    }
-
-    // The digits of a size behind the text, where there is room for them.
+    // The digits of a size behind the text.
     #[tactic(auto, using(crate::proofs::Digits::digits_small, crate::proofs::Digits::digits_some))]
-    fn with_digits(self, size: u32) -> Decimal
-        ensures { (t : List ℕ) → self ≡ decimal_of t → length t + length (digits size) ≤ 11 → result ≡ decimal_of (t ++ digits size) }
+    fn push_digits(&mut self, size: u32)
+        requires { length self.old + length (digits size) ≤ 11 }
+        ensures { self.new ≡ self.old ++ digits size }
     {
         if size < 10 {
-            return self.with(b'0' + size as u8);
+            self.push(b'0' + size as u8);
+            return;
         }
-        self.with_digits(size / 10).with(b'0' + (size % 10) as u8)
+        self.push_digits(size / 10);
+        self.push(b'0' + (size % 10) as u8);
     }
 }
 
-// The number without its sign. That of the smallest number is no signed number of 32 bits.
-fn magnitude(value: i32) -> u32
-    ensures { result ≡ nat_abs value }
-{
-    if value >= 0 {
-        return value as u32;
+// Of a count.
+impl From<u32> for Decimal {
+    ghost from_gives = { λ count text. text ≡ digits count };
+
+    fn from(count: u32) -> Decimal {
+        let mut text = Decimal::new();
+        text.push_digits(count);
+        text
     }
-    if value == -2147483648 {
-        return 2147483648;
+}
+
+// Of a number.
+impl From<i32> for Decimal {
+    ghost from_gives = { λ number text. text ≡ shortest number };
+
+    fn from(number: i32) -> Decimal {
+        let mut text = Decimal::new();
+        if number < 0 {
+            text.push(b'-');
+        }
+        text.push_digits(number.unsigned_abs());
+        text
     }
-    (-value) as u32
 }

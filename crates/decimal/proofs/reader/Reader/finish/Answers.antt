@@ -1,4 +1,5 @@
--- A number ends only among digits, and is then what its sign and size make.
+-- What a reader has found, by its stage.
+use mathlib.Core.Logic.{inl, inr}
 use Rattle.decimal.proofs.Reading.{took_found}
 use Rattle.decimal.proofs.reader.Reader.finish.Goals as goal
 
@@ -6,10 +7,5 @@ pub returns-in-Digits : goal.returns-in-Digits
 returns-in-Digits c = took_found _ (rw c.in-Digits.is c.signed.ensures)
 
 pub returns-in-Start : goal.returns-in-Start
-returns-in-Start c = took_found _ (rw c.in-Start.is)
-
-pub returns-in-Signed : goal.returns-in-Signed
-returns-in-Signed c = took_found _ (rw c.in-Signed.is)
-
-pub returns-in-Refused : goal.returns-in-Refused
-returns-in-Refused c = took_found _ (rw c.in-Refused.is)
+returns-in-Start c =
+    elim c.in-Start.is [ inl e ↦ took_found _ (rw e) | inr more ↦ elim more [ inl e ↦ took_found _ (rw e) | inr e ↦ took_found _ (rw e) ] ]

@@ -1,4 +1,4 @@
--- The fields are those of the definition.
+-- A new reader has taken nothing.
 use Rattle.decimal.proofs.Reading.{took_none}
 use Rattle.decimal.proofs.reader.Reader.new.Goals as goal
 

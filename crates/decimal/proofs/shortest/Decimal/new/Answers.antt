@@ -1,8 +1,9 @@
 -- Eleven zero bytes are the empty text filled up.
-use borrow.Author.Rules.{rules}
+use native.Mathlib.Omega.{arith}
+use mathlib.Core.Path.{refl}
 use Rattle.decimal.specs.Answers.{filled}
 use Rattle.decimal.proofs.shortest.Decimal.new.Goals as goal
 
-pub returns : goal.returns
+pub invariant_of-result : goal.invariant_of-result
 unfolding filled
-returns c = search rules
+invariant_of-result c = (omega arith, refl)
