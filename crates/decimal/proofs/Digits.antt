@@ -7,7 +7,7 @@ use Rattle.std.specs.Prelude.{Option, None, Some}
 use native.Mathlib.Omega.{arith}
 use native.Mathlib.Nat.{div-lt_iff_lt-mul, pow-suc}
 use native.Mathlib.Decide.{dec_lt}
-use borrow.Author.Tests.{lt-ltb, le-ltb, le-leb, lt-leb}
+use borrow.Author.Tests.{lt-ltb, le-ltb, le-leb}
 use lib.ListN.{length, replicate, length-append}
 use Rattle.decimal.specs.Operand.{is_digit, digits_from, one_or_more}
 use Rattle.decimal.specs.Shortest.{digits_of, digits}
@@ -80,14 +80,6 @@ digits_from-append n (b ∷ s) t = go (is_digit b) (digits_from-append (10 * n +
         → cond digit (digits_from (10 * n + (b - 48)) (s ++ t)) None ≡ then_digits (cond digit (digits_from (10 * n + (b - 48)) s) None) t
     go true h = h
     go false h = refl
-
--- a byte below the digits is none
-pub below_digits : (b : ℕ) → b < 48 → is_digit b ≡ false
-below_digits b h = rw (lt-leb 48 b h)
-
--- a byte above them is none
-pub above_digits : (b : ℕ) → 57 < b → is_digit b ≡ false
-above_digits b h = rw (le-leb 48 b (omega arith), lt-leb b 57 h)
 
 -- a byte from `0` to `9` is one
 pub is_digit_lem : (b : ℕ) → 48 ≤ b → b ≤ 57 → is_digit b ≡ true

@@ -1,15 +1,15 @@
 -- The machine's signed numbers are the integers that they stand for: their bits, their negation, and their sum, difference and product.
-use Prim.Native.Nat.{ℕ, zero, suc, ◌+◌, ◌-◌, ◌*◌, ◌≤◌, ◌<◌}
-use mathlib.Core.Path.{◌≡◌, refl, sym, ap, ◌∙◌}
-use mathlib.Core.Bool.{Bool, true, false, cond, not, true≢false, false≢true}
+use Prim.Native.Nat.{ℕ, suc, ◌+◌, ◌-◌, ◌*◌, ◌≤◌, ◌<◌}
+use mathlib.Core.Path.{◌≡◌, sym, ap, ◌∙◌}
+use mathlib.Core.Bool.{Bool, true, false, cond, not}
 use native.Mathlib.Omega.{arith}
 use native.Mathlib.Nat.{mul-le-mul}
 use borrow.Author.Tests.{lt-ltb}
-use lib.Dec.{T, ltb, leb-zero}
-use lib.IntN.{ℤ, pos, negsuc, neg_ℤ, nat_abs, ◌+ℤ◌, ◌-ℤ◌, ◌*ℤ◌, +ℤ_idl}
-use lib.Signed.{mag, nat_abs-le, non_neg, le_z}
+use lib.Dec.{T, ltb}
+use lib.IntN.{ℤ, pos, negsuc, neg_ℤ, ◌+ℤ◌, ◌-ℤ◌, ◌*ℤ◌, +ℤ_idl}
+use lib.Signed.{mag}
 use mir.Syntax.{w32, w64}
-use mir.Val.{Fits, SFits, of_z, to_z}
+use mir.Val.{SFits, of_z, to_z}
 use mir.Facts.{to_z-of_z}
 use Rattle.decimal.proofs.Ranges.{mag_negated}
 use Rattle.decimal.specs.declared.operations.Operation.{Operation}
@@ -40,45 +40,6 @@ negated_fits z f h = rw (to_z-of_z f, zero_minus z) (negation_fits z f h)
 -- and it is the integers' negation
 pub negated_is : (z : ℤ) → SFits w32 z → (of_z w32 z ≡ 2147483648 → ⊥) → to_z w32 (of_z w32 (pos 0 -ℤ to_z w32 (of_z w32 z))) ≡ neg_ℤ z
 negated_is z f h = to_z-of_z (negated_fits z f h) ∙ rw (to_z-of_z f) (zero_minus z)
-
--- what a cast of a number to an unsigned type asks
-size_fits : (z : ℤ) → T (non_neg z) → SFits w32 z → T (non_neg z) × Fits w32 (nat_abs z)
-size_fits z h f = (h, record { fits = omega (arith, nat_abs-le z f.sfits) })
-
--- it holds of a number that is not negative
-pub kept_size : {z : ℤ} → SFits w32 z → le_z (pos 0) (to_z w32 (of_z w32 z)) ≡ true → T (non_neg (to_z w32 (of_z w32 z))) × Fits w32 (nat_abs (to_z w32 (of_z w32 z)))
-kept_size {z} f e = rw (to_z-of_z f) (size_fits z (go z (rw (to_z-of_z f) at e)) f)
-  where
-    go : (y : ℤ) → le_z (pos 0) y ≡ true → T (non_neg y)
-    go (pos n) h = tt
-    go (negsuc n) h = absurd (false≢true h)
-
--- and of the negation of one that is
-pub negated_size : {z : ℤ} → SFits w32 z → (of_z w32 z ≡ 2147483648 → ⊥) → le_z (pos 0) (to_z w32 (of_z w32 z)) ≡ false
-    → T (non_neg (to_z w32 (of_z w32 (pos 0 -ℤ to_z w32 (of_z w32 z))))) × Fits w32 (nat_abs (to_z w32 (of_z w32 (pos 0 -ℤ to_z w32 (of_z w32 z)))))
-negated_size {z} f n e = rw (negated_is z f n) (size_fits (neg_ℤ z) (go z (rw (to_z-of_z f) at e)) (negation_fits z f n))
-  where
-    go : (y : ℤ) → le_z (pos 0) y ≡ false → T (non_neg (neg_ℤ y))
-    go (pos y) h = absurd (true≢false (sym (leb-zero y) ∙ h))
-    go (negsuc y) h = tt
-
--- a negation has the same magnitude
-nat_abs_negated : (z : ℤ) → nat_abs (neg_ℤ z) ≡ nat_abs z
-nat_abs_negated (pos zero) = refl
-nat_abs_negated (pos (suc n)) = refl
-nat_abs_negated (negsuc n) = refl
-
--- so the machine's negation has it too
-pub nat_abs_negated_is : {z : ℤ} → SFits w32 z → (of_z w32 z ≡ 2147483648 → ⊥) → nat_abs (to_z w32 (of_z w32 (pos 0 -ℤ to_z w32 (of_z w32 z)))) ≡ nat_abs z
-nat_abs_negated_is {z} f n = ap nat_abs (negated_is z f n) ∙ nat_abs_negated z
-
--- the negation of a size fits
-pub negated_size_fits : (n : ℕ) → n < 2147483648 → SFits w32 (pos 0 -ℤ to_z w32 n)
-negated_size_fits n h = negated_fits (pos n) (record { sfits = h }) (omega arith)
-
--- and is the integers' negation
-pub negated_size_is : (n : ℕ) → n < 2147483648 → to_z w32 (of_z w32 (pos 0 -ℤ to_z w32 n)) ≡ neg_ℤ (pos n)
-negated_size_is n h = negated_is (pos n) (record { sfits = h }) (omega arith)
 
 -- the magnitude of a sum
 mag_sum : (a b : ℤ) → mag (a +ℤ b) ≤ mag a + mag b + 1

@@ -1,19 +1,12 @@
 -- A text in its eleven bytes: one byte more, and digits behind it.
 use Prim.Native.Nat.{ℕ, zero, suc, ◌+◌, ◌/◌, ◌%◌, ◌^◌, ◌≤◌, ◌<◌}
 use mathlib.Core.Path.{◌≡◌, refl, ap}
-use mathlib.Core.Bool.{true, false, true≢false}
 use mathlib.Core.List.{List, [], ◌∷◌, ◌++◌, append_assoc}
 use native.Mathlib.Omega.{arith}
-use borrow.Author.Tests.{ltb-true}
-use lib.IntN.{ℤ, pos, negsuc, nat_abs}
-use lib.Signed.{lt_z}
 use lib.ListN.{length, take, set, length-append}
-use mir.Syntax.{w32}
-use mir.Val.{SFits, of_z, to_z}
-use mir.Facts.{to_z-of_z}
 use Rattle.decimal.proofs.Digits.{digits_step, digits-count}
 use Rattle.decimal.specs.declared.shortest.Decimal.TheInside.{Inside}
-use Rattle.decimal.specs.Shortest.{digits, shortest}
+use Rattle.decimal.specs.Shortest.{digits}
 use Rattle.decimal.specs.Answers.{text_in, filled, decimal_of}
 
 -- a byte stored past the text is the text with that byte
@@ -34,22 +27,6 @@ room_behind t n h k = omega (arith, length-append t (digits (n / 10)), length-ap
 -- a number of 32 bits has at most ten digits
 pub digits-room : (n : ℕ) → n < 2 ^ 32 → length (digits n) ≤ 10
 digits-room n h = digits-count 9 n (omega arith)
-
--- the shortest decimal of a negative number is a minus sign and the digits of its magnitude
-pub minus_digits : {z : ℤ} {n : ℕ} → SFits w32 z → lt_z (to_z w32 (of_z w32 z)) (pos 0) ≡ true → n ≡ nat_abs (to_z w32 (of_z w32 z)) → 45 ∷ digits n ≡ shortest z
-minus_digits {z} {n} f e m = rw (m, to_z-of_z f) (go z (rw (to_z-of_z f) at e))
-  where
-    go : (y : ℤ) → lt_z y (pos 0) ≡ true → 45 ∷ digits (nat_abs y) ≡ shortest y
-    go (pos k) h = absurd (omega (arith, ltb-true k 0 h))
-    go (negsuc k) h = refl
-
--- and of any other the digits alone
-pub plain-digits : {z : ℤ} {n : ℕ} → SFits w32 z → lt_z (to_z w32 (of_z w32 z)) (pos 0) ≡ false → n ≡ nat_abs (to_z w32 (of_z w32 z)) → digits n ≡ shortest z
-plain-digits {z} {n} f e m = rw (m, to_z-of_z f) (go z (rw (to_z-of_z f) at e))
-  where
-    go : (y : ℤ) → lt_z y (pos 0) ≡ false → digits (nat_abs y) ≡ shortest y
-    go (pos k) h = refl
-    go (negsuc k) h = absurd (true≢false h)
 
 -- the bytes of a filled text begin with the text
 pub filled_text : (n : ℕ) (t : List ℕ) → length t ≤ n → take (length t) (filled n t) ≡ t

@@ -1,5 +1,5 @@
 -- A product fits 64 bits.
-use mathlib.Core.Path.{ap, ◌∙◌}
+use mathlib.Core.Path.{ap}
 use Rattle.decimal.specs.Arithmetic.{ranged}
 use Rattle.decimal.proofs.Machine.{product_is}
 use Rattle.decimal.proofs.operations.Operation.of_numbers.Goals as goal
@@ -7,4 +7,5 @@ use Rattle.decimal.proofs.operations.Operation.of_numbers.Goals as goal
 pub returns-in-Product : goal.returns-in-Product
 returns-in-Product c =
     let f = c.ranges in
-    rw c.in-Product.is (c.ranged-in-Product.ensures ∙ ap ranged (product_is f.first f.second c.from-a.ensures c.from-b.ensures))
+    let e = ap ranged (product_is f.first f.second c.from-a.ensures c.from-b.ensures) in
+    rw c.in-Product.is (cc)

@@ -1,11 +1,11 @@
--- What a reader has found, by its stage.
-use mathlib.Core.Logic.{inl, inr}
+-- What a reader has found is what its bytes are, whatever its stage.
+use native.Mathlib.Omega.{arith}
+use Rattle.std.proofs.lemmas.Grind.{common_steps}
 use Rattle.decimal.proofs.Reading.{took_found}
 use Rattle.decimal.proofs.reader.Reader.finish.Goals as goal
 
 pub returns-in-Digits : goal.returns-in-Digits
-returns-in-Digits c = took_found _ (rw c.in-Digits.is c.signed.ensures)
+returns-in-Digits c = took_found _ (grind (arith, common_steps))
 
 pub returns-in-Start : goal.returns-in-Start
-returns-in-Start c =
-    elim c.in-Start.is [ inl e ↦ took_found _ (rw e) | inr more ↦ elim more [ inl e ↦ took_found _ (rw e) | inr e ↦ took_found _ (rw e) ] ]
+returns-in-Start c = took_found _ (grind (arith, common_steps))

@@ -1,13 +1,14 @@
--- What the reader after a byte has taken, by its stage.
-use mathlib.Core.Logic.{inl, inr}
+-- The reader after a byte has taken it too, whatever its stage.
+use native.Mathlib.Omega.{arith}
+use Rattle.std.proofs.lemmas.Grind.{common_steps}
 use Rattle.decimal.proofs.Reading.{took_more}
 use Rattle.decimal.proofs.reader.Reader.take.Goals as goal
 
 pub returns-in-Start : goal.returns-in-Start
-returns-in-Start c = took_more _ _ (rw c.in-Start.is c.take_first.ensures)
+returns-in-Start c = took_more _ _ (grind (arith, common_steps))
 
 pub returns-in-Signed : goal.returns-in-Signed
-returns-in-Signed c = elim c.in-Signed.is [ inl e ↦ took_more _ _ (rw e c.take_digit.ensures) | inr e ↦ took_more _ _ (rw e c.take_digit.ensures) ]
+returns-in-Signed c = took_more _ _ (grind (arith, common_steps))
 
 pub returns-in-Refused : goal.returns-in-Refused
-returns-in-Refused c = took_more _ _ (rw c.in-Refused.is)
+returns-in-Refused c = took_more _ _ (grind (arith, common_steps))

@@ -1,5 +1,4 @@
 -- All digits but the last stand behind the text, and leave room for it.
-use mathlib.Core.List.{◌++◌}
 use Prim.Native.Nat.{◌/◌, ◌≤◌}
 use native.Mathlib.Omega.{arith}
 use lib.ListN.{length-append}
