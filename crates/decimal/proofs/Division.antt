@@ -7,7 +7,7 @@ use native.Mathlib.Omega.{arith}
 use native.Mathlib.Nat.{mul-zero, mod-lt, div-one, div-le_self, div-lt_iff_lt-mul, div-add-mod, div-eq_of_lt, mul-add-div}
 use borrow.Author.Tests.{lt-ltb}
 use lib.Dec.{eqb-suc-zero, le→leb, lt→ltb, ltb→lt}
-use lib.IntN.{ℤ, pos, negsuc, neg_ℤ, nat_abs, ◌+ℤ◌, ◌-ℤ◌, ◌*ℤ◌, neg_ℤ-neg_ℤ, pos-ne-negsuc, +ℤ_comm, +ℤ-neg_ℤ_cancel, -ℤ-+ℤ_cancel}
+use lib.IntN.{ℤ, pos, negsuc, neg_ℤ, nat_abs, ◌+ℤ◌, ◌-ℤ◌, ◌*ℤ◌, neg_ℤ-neg_ℤ, +ℤ_comm, +ℤ-neg_ℤ_cancel, -ℤ-+ℤ_cancel}
 use lib.Signed.{shr_z, nat_abs-le, le_z_yes, lt_z_yes}
 use mir.Syntax.{w32}
 use mir.Val.{SFits}
@@ -112,15 +112,6 @@ remainder_only {a} {b} {q} {r} d = ap (λ z. a -ℤ b *ℤ z) (quotient_only d) 
 -- so two are the same
 pub division_unique : {a b q r q' r' : ℤ} → Division a b q r → Division a b q' r' → (q ≡ q') × (r ≡ r')
 division_unique d e = (sym (quotient_only d) ∙ quotient_only e, sym (remainder_only d) ∙ remainder_only e)
-
--- by -1 the quotient is the negation
-pub quotient_minus_one : (a : ℤ) → quotient_of a (negsuc 0) ≡ neg_ℤ a
-quotient_minus_one (pos a) = rw (div-one a)
-quotient_minus_one (negsuc a) = rw (div-one a)
-
--- and nothing remains
-pub remainder_minus_one : (a : ℤ) → remainder_of a (negsuc 0) ≡ pos 0
-remainder_minus_one a = remainder_left a (negsuc 0) (λ e. pos-ne-negsuc 0 0 (sym e)) ∙ ap pos (omega (arith, left_below a 1 (omega arith)))
 
 -- a divisor of a division is not zero
 pub divisor_some : {a b q r : ℤ} → Division a b q r → is_zero b ≡ false

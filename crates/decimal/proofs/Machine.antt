@@ -1,12 +1,12 @@
 -- The machine's signed numbers are the integers that they stand for: their bits, their negation, and their sum, difference and product.
 use Prim.Native.Nat.{ℕ, suc, ◌+◌, ◌-◌, ◌*◌, ◌≤◌, ◌<◌}
-use mathlib.Core.Path.{◌≡◌, sym, ap, ◌∙◌}
+use mathlib.Core.Path.{◌≡◌}
 use mathlib.Core.Bool.{Bool, true, false, cond, not}
 use native.Mathlib.Omega.{arith}
 use native.Mathlib.Nat.{mul-le-mul}
 use borrow.Author.Tests.{lt-ltb}
 use lib.Dec.{T, ltb}
-use lib.IntN.{ℤ, pos, negsuc, neg_ℤ, ◌+ℤ◌, ◌-ℤ◌, ◌*ℤ◌, +ℤ_idl}
+use lib.IntN.{ℤ, pos, negsuc, neg_ℤ, ◌+ℤ◌, ◌*ℤ◌}
 use lib.Signed.{mag}
 use mir.Syntax.{w32, w64}
 use mir.Val.{SFits, of_z, to_z}
@@ -16,30 +16,9 @@ use Rattle.decimal.specs.declared.operations.Operation.{Operation}
 use Rattle.decimal.specs.declared.operations.Operation.TheVariants.{Sum, Difference, Product, Quotient, Remainder}
 use Rattle.decimal.specs.Arithmetic.{exact, divides}
 
--- a number whose bits were tested is the number of those bits
-pub read_bits : {z : ℤ} {n : ℕ} → SFits w32 z → of_z w32 z ≡ n → z ≡ to_z w32 n
-read_bits f e = sym (to_z-of_z f) ∙ ap (to_z w32) e
-
 -- a size below the sign's bit is read as that number
 pub size_is : (n : ℕ) → n < 2147483648 → to_z w32 n ≡ pos n
 size_is n h = rw (lt-ltb n 2147483648 h)
-
--- the machine negates by taking from zero
-pub zero_minus : (z : ℤ) → pos 0 -ℤ z ≡ neg_ℤ z
-zero_minus z = +ℤ_idl (neg_ℤ z)
-
--- a negation fits, but for that of the smallest number
-pub negation_fits : (z : ℤ) → SFits w32 z → (of_z w32 z ≡ 2147483648 → ⊥) → SFits w32 (neg_ℤ z)
-negation_fits (pos n) f h = record { sfits = omega (arith, mag_negated n, f.sfits) }
-negation_fits (negsuc n) f h = record { sfits = omega (arith, f.sfits) }
-
--- so the machine's negation fits
-pub negated_fits : (z : ℤ) → SFits w32 z → (of_z w32 z ≡ 2147483648 → ⊥) → SFits w32 (pos 0 -ℤ to_z w32 (of_z w32 z))
-negated_fits z f h = rw (to_z-of_z f, zero_minus z) (negation_fits z f h)
-
--- and it is the integers' negation
-pub negated_is : (z : ℤ) → SFits w32 z → (of_z w32 z ≡ 2147483648 → ⊥) → to_z w32 (of_z w32 (pos 0 -ℤ to_z w32 (of_z w32 z))) ≡ neg_ℤ z
-negated_is z f h = to_z-of_z (negated_fits z f h) ∙ rw (to_z-of_z f) (zero_minus z)
 
 -- the magnitude of a sum
 mag_sum : (a b : ℤ) → mag (a +ℤ b) ≤ mag a + mag b + 1
@@ -91,19 +70,3 @@ product_is {a} {b} f g p q = rw (p, q, to_z-of_z f, to_z-of_z g, to_z-of_z (wide
 -- a number of 32 bits, cast to 64 and read there
 abbrev pub wide : ℤ → ℤ
 wide z = to_z w64 (of_z w64 (to_z w32 (of_z w32 z)))
-
--- so the cast fits
-pub cast_fits : {z : ℤ} → SFits w32 z → SFits w64 (to_z w32 (of_z w32 z))
-cast_fits f = rw (to_z-of_z f) (widen f)
-
--- and keeps the number
-wide_is : {z : ℤ} → SFits w32 z → wide z ≡ z
-wide_is f = to_z-of_z (cast_fits f) ∙ to_z-of_z f
-
--- so the machine's sum, difference and product in 64 bits fit
-pub wide_fits : (op : Operation) (a b : ℤ) → T (not (divides op)) → SFits w32 a → SFits w32 b → SFits w64 (exact op (wide a) (wide b))
-wide_fits op a b h f g = rw (wide_is f, wide_is g) (exact_fits op a b h f g)
-
--- and are the integers'
-pub wide-exact : (op : Operation) (a b : ℤ) → T (not (divides op)) → SFits w32 a → SFits w32 b → to_z w64 (of_z w64 (exact op (wide a) (wide b))) ≡ exact op a b
-wide-exact op a b h f g = to_z-of_z (wide_fits op a b h f g) ∙ rw (wide_is f, wide_is g)

@@ -1,9 +1,9 @@
 -- The range of an operand and of a result, as one bound on a number's magnitude: the form in which the machine has it.
 use Prim.Native.Nat.{ℕ, zero, suc, ◌-◌, ◌≤◌, ◌<◌}
 use mathlib.Core.Path.{◌≡◌, refl, sym, ◌∙◌}
-use mathlib.Core.Bool.{Bool, true, false, ◌&&◌, false≢true}
+use mathlib.Core.Bool.{Bool, true, false, ◌&&◌}
 use native.Mathlib.Omega.{arith}
-use borrow.Author.Tests.{le-leb, lt-leb, leb-true, leb-false, ltb-true, ltb-false}
+use borrow.Author.Tests.{le-leb, lt-leb, leb-true, leb-false, ltb-false}
 use lib.Dec.{T, leb}
 use lib.IntN.{ℤ, pos, negsuc, neg_ℤ}
 use lib.Signed.{mag, lt_z}
@@ -49,16 +49,6 @@ range_fits z h = let k : mag z ≤ 2147483647 = leb-true (mag z) 2147483647 (sym
 pub mag_negated : (n : ℕ) → mag (neg_ℤ (pos n)) ≡ n - 1
 mag_negated zero = refl
 mag_negated (suc n) = omega arith
-
--- the first test of the range: a number below it
-pub below_range : (z : ℤ) → lt_z z (negsuc 2147483647) ≡ true → in_range z ≡ false
-below_range (pos n) e = absurd (false≢true e)
-below_range (negsuc n) e = out_of_range (negsuc n) (ltb-true 2147483647 n e)
-
--- the second test: a number above it
-pub above_range : (z : ℤ) → lt_z (pos 2147483647) z ≡ true → in_range z ≡ false
-above_range (pos n) e = out_of_range (pos n) (ltb-true 2147483647 n e)
-above_range (negsuc n) e = absurd (false≢true e)
 
 -- where both fail the number is in range
 pub within_range : (z : ℤ) → lt_z z (negsuc 2147483647) ≡ false → lt_z (pos 2147483647) z ≡ false → in_range z ≡ true

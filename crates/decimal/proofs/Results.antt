@@ -1,14 +1,13 @@
 -- What each branch of the operations answers is the definition's result.
 use mathlib.Core.Path.{◌≡◌, ap, ◌∙◌}
 use mathlib.Core.Logic.{◌≢◌}
-use mathlib.Core.Bool.{true, false}
+use mathlib.Core.Bool.{true}
 use Rattle.std.specs.Prelude.{Ok}
 use lib.IntN.{ℤ, pos, negsuc}
-use lib.Signed.{lt_z}
-use mir.Syntax.{w32, w64}
+use mir.Syntax.{w32}
 use mir.Val.{SFits, of_z, to_z}
 use mir.Facts.{to_z-of_z}
-use Rattle.decimal.proofs.Ranges.{in_range_lem, within_range, range_fits}
+use Rattle.decimal.proofs.Ranges.{in_range_lem}
 use Rattle.decimal.proofs.Division.{quotient_only, remainder_only, divisor_some, quotient_fits, remainder_fits}
 use Rattle.decimal.specs.declared.operations.Operation.{Operation}
 use Rattle.decimal.specs.declared.operations.Operation.TheVariants.{Quotient, Remainder}
@@ -18,19 +17,6 @@ use Rattle.decimal.specs.Arithmetic.{Division, ranged, of_numbers}
 -- a number in range is its own result
 in_is_number : (z : ℤ) → in_range z ≡ true → Ok z ≡ ranged z
 in_is_number z e = rw e
-
-module _ {z : ℤ} (f : SFits w64 z) (low : lt_z (to_z w64 (of_z w64 z)) (negsuc 2147483647) ≡ false) (high : lt_z (pos 2147483647) (to_z w64 (of_z w64 z)) ≡ false) where
-  -- within the range
-  within : in_range z ≡ true
-  within = within_range z (rw (to_z-of_z f) at low) (rw (to_z-of_z f) at high)
-
-  -- the cast to 32 bits fits
-  pub within_fits : SFits w32 (to_z w64 (of_z w64 z))
-  within_fits = rw (to_z-of_z f) (range_fits z within)
-
-  -- and keeps the number
-  pub within_number : Ok (to_z w32 (of_z w32 (to_z w64 (of_z w64 z)))) ≡ ranged z
-  within_number = ap Ok (to_z-of_z within_fits ∙ to_z-of_z f) ∙ in_is_number z within
 
 -- two numbers that were passed on are the numbers
 pub passed : (op : Operation) (a b : ℤ) → SFits w32 a → SFits w32 b → of_numbers op (to_z w32 (of_z w32 a)) (to_z w32 (of_z w32 b)) ≡ of_numbers op a b
