@@ -1,46 +1,31 @@
--- The laws of blocks, of the low bytes, of `same` and of `repeated`, and how far a copy or a comparison has come after some turns of its loop.
+-- The laws of blocks, of the low bytes, of `same` and of `repeated`.
 -- Of a single store, `lib.ListN` has `length-set`, and `lib.Seq` has `take-set-le`, `drop-set-lt` and `set_out`.
 use Prim.Native.Nat.{ℕ, zero, suc, ◌+◌, ◌-◌, ◌%◌, ◌≤◌, ◌<◌}
 use mathlib.Core.Path.{◌≡◌, refl, sym, ap, ◌∙◌}
-use mathlib.Core.Bool.{Bool, true, false, cond, not, ◌&&◌, false≢true}
+use mathlib.Core.Bool.{Bool, true, false, cond, ◌&&◌, false≢true}
 use mathlib.Core.List.{List, [], ◌∷◌, ◌++◌, append_assoc, append-nil}
 use native.Mathlib.Omega.{arith}
 use native.Mathlib.Nat.{mod-eq_of_lt}
 use native.Mathlib.Numerals.{add-one}
-use borrow.Author.Tests.{not-true, not-false, le-leb, lt-leb, leb-true, eqb-true, eq-eqb}
-use lib.ListN.{length, take, drop, get_or, set, length-set, length-append, length-drop, take-append-drop, drop_of_length-le}
-use lib.Seq.{drop-cons, take-suc, take-suc-set, take-set-lt, set-append_left, set_at, get_or-set_same, drop-set-lt, get_or-take, get_or-drop, take_at, drop_at, drop-drop, length-take-le, take_all}
+use borrow.Author.Tests.{le-leb, lt-leb, leb-true, eqb-true, eq-eqb}
+use lib.ListN.{length, take, drop, get_or, set, replicate, length-append, length-drop, take-append-drop, drop_of_length-le}
+use lib.Seq.{drop-cons, take-suc, take-suc-set, take-set-lt, set-append_left, set_at, get_or-take, get_or-drop, take_at, drop_at, drop-drop, length-take-le, take_all}
 use lib.Dec.{eqb, leb}
+use Rattle.std.specs.Bool.{Decides}
+use Rattle.std.proofs.lemmas.Bool.Decides.{same_from_decides}
+use Rattle.std.proofs.lemmas.List.{length-map, take-map, drop-map}
+use lib.Pointwise.{pointwise}
+use borrow.Rule.Slice.PartMut.{put_mid}
 use Rattle.memory.specs.Block.{within, block, placed, copied, moved, low_bytes, same, same_blocks, same_bytes, repeated, filled}
 
--- ---- a test that is asked by a call, as `if !lies_within(..)`
-
--- the branch was taken: the test fails
-pub refused : {r b : Bool} → r ≡ b → not r ≡ true → b ≡ false
-refused {r} e h = sym e ∙ not-true r h
-
--- the branch was left: the test passes
-pub granted : {r b : Bool} → r ≡ b → not r ≡ false → b ≡ true
-granted {r} e h = sym e ∙ not-false r h
+-- ---- two tests
 
 -- both tests of a passed pair pass
 and_true : (a b : Bool) → a && b ≡ true → (a ≡ true) × (b ≡ true)
 and_true true b e = (refl, e)
 and_true false b e = absurd (false≢true e)
 
--- two blocks that were found to lie within their lists do
-pub both_in : {r : Bool} (from s to t count : ℕ) → r ≡ leb (from + count) s && leb (to + count) t → not r ≡ false → (from + count ≤ s) × (to + count ≤ t)
-both_in from s to t count e h =
-    let w = and_true (leb (from + count) s) (leb (to + count) t) (granted e h) in
-    (leb-true (from + count) s w.0, leb-true (to + count) t w.1)
-
 -- ---- a store
-
--- what a store leaves from its position on
-pub drop-set_here : (l : List ℕ) (i v : ℕ) → i < length l → drop i (set l i v) ≡ v ∷ drop (i + 1) l
-drop-set_here l i v h =
-    let h' : i < length (set l i v) = simp length-set (omega arith) in
-    drop-cons (set l i v) i 0 h' ∙ rw (add-one, get_or-set_same l i v 0 h, drop-set-lt (suc i) l i v (omega arith))
 
 -- what a store leaves up to and with its position
 pub take-set_here : (l : List ℕ) (i v : ℕ) → i < length l → take (i + 1) (set l i v) ≡ take i l ++ v ∷ []
@@ -140,42 +125,6 @@ placed_before i p l v h =
     let n : i + suc (length p) ≡ suc i + length p = omega arith in
     rw (add-one, n, set-append_left (take (suc i) l) (p ++ drop (suc i + length p) l) i v t, ← take-set-lt (suc i) l i v (omega arith), take-suc-set l i v h, append_assoc)
 
--- ---- a copy that goes down, with `left` turns to go: all but the first `left` elements of the piece are placed
-
-pub record Falling (to : ℕ) (piece target : List ℕ) (left : ℕ) (now : List ℕ) : Type 0 where
-  pub size : length now ≡ length target
-  pub so_far : now ≡ placed (to + left) (drop left piece) target
-
-module _ {to : ℕ} {piece target : List ℕ} where
-  -- before the first turn nothing is placed
-  pub falling_start : {left : ℕ} → length piece ≤ left → Falling to piece target left target
-  falling_start {left} h = record { size = refl; so_far = rw (drop_of_length-le piece h) (sym (placed-none (to + left) target)) }
-
-  -- one turn stores the last element that is left
-  pub falling_step : {left v : ℕ} {now : List ℕ} → Falling to piece target left now → to + length piece ≤ length target → 0 < left → left ≤ length piece → v ≡ get_or piece (left - 1) 0
-      → Falling to piece target (left - 1) (set now (to + (left - 1)) v)
-  falling_step {left} {v} {now} r h p b e =
-      let q : to + left ≡ to + (left - 1) + 1 = omega arith in
-      let s : left ≡ suc (left - 1) = omega arith in
-      let d : drop (left - 1) piece ≡ v ∷ drop left piece = drop-cons piece (left - 1) 0 (omega arith) ∙ rw (e, ← s) in
-      record {
-        size = length-set now (to + (left - 1)) v ∙ r.size;
-        so_far = ap (λ (l : List ℕ). set l (to + (left - 1)) v) r.so_far
-            ∙ ap (λ (k : ℕ). set (placed k (drop left piece) target) (to + (left - 1)) v) q
-            ∙ placed_before (to + (left - 1)) (drop left piece) target v (omega arith)
-            ∙ rw d;
-      }
-
-  -- after all turns the piece is placed
-  pub falling_end : {left : ℕ} {now : List ℕ} → Falling to piece target left now → left ≡ 0 → now ≡ placed to piece target
-  falling_end {left} r e =
-      let z : to + left ≡ to = omega arith in
-      r.so_far ∙ rw (z, e)
-
-  -- what such a copy has not come to yet is the target's
-  pub falling_ahead : {left i : ℕ} {now : List ℕ} → Falling to piece target left now → to + left ≤ length target → i < to + left → get_or now i 0 ≡ get_or target i 0
-  falling_ahead {left} {i} r h a = ap (λ (l : List ℕ). get_or l i 0) r.so_far ∙ placed_below (to + left) (drop left piece) target i h a
-
 -- ---- a block copied or moved
 
 -- where both blocks lie within their lists, the block is placed
@@ -231,55 +180,12 @@ moved_past_target from to count l = copied_past_target from to count l l
 pub moved_length : (from to count : ℕ) (l : List ℕ) → length (moved from to count l) ≡ length l
 moved_length from to count l = copied-length from to count l l
 
--- ---- a copy from the first element on, after `done` turns: a block of `done` elements is placed
-
-pub record Copying (from to count : ℕ) (source target : List ℕ) (done : ℕ) (now : List ℕ) : Type 0 where
-  pub in_source : from + count ≤ length source
-  pub in_target : to + count ≤ length target
-  pub bound : done ≤ count
-  pub size : length now ≡ length target
-  pub so_far : now ≡ placed to (block from done source) target
-
-module _ {from to count : ℕ} {source target : List ℕ} where
-  -- before the first turn nothing is placed
-  pub copying_start : from + count ≤ length source → to + count ≤ length target → Copying from to count source target 0 target
-  copying_start hs ht = record { in_source = hs; in_target = ht; bound = omega arith; size = refl; so_far = sym (placed-none to target) }
-
-  -- one turn stores the next element
-  pub copying_step : {done v : ℕ} {now : List ℕ} → Copying from to count source target done now → done < count → v ≡ get_or source (from + done) 0
-      → Copying from to count source target (done + 1) (set now (to + done) v)
-  copying_step {done} {v} {now} r b e =
-      let n = block-length from done source (omega arith) in
-      record {
-        in_source = r.in_source;
-        in_target = r.in_target;
-        bound = omega arith;
-        size = length-set now (to + done) v ∙ r.size;
-        so_far = ap (λ (l : List ℕ). set l (to + done) v) r.so_far
-            ∙ ap (λ (k : ℕ). set (placed to (block from done source) target) (to + k) v) (sym n)
-            ∙ placed-after to (block from done source) target v (omega arith)
-            ∙ rw (e, ← block_more from done source (omega arith));
-      }
-
-  -- after all turns the block is copied
-  pub copying_end : {done : ℕ} {now : List ℕ} → Copying from to count source target done now → count ≤ done → now ≡ copied from to count source target
-  copying_end {done} r h =
-      let e : done ≡ count = omega arith in
-      r.so_far ∙ rw e (sym (copied_in from to count source target r.in_source r.in_target))
-
-  -- what such a copy has not come to yet is the target's
-  pub copying_ahead : {done i : ℕ} {now : List ℕ} → Copying from to count source target done now → to + done ≤ i → get_or now i 0 ≡ get_or target i 0
-  copying_ahead {done} {i} r a =
-      let n = block-length from done source (omega arith) in
-      ap (λ (l : List ℕ). get_or l i 0) r.so_far ∙ placed_past to (block from done source) target i (omega arith) (omega arith)
-
 -- ---- the low bytes
 
 -- one byte for each element
 pub length-low_bytes : (l : List ℕ) → length (low_bytes l) ≡ length l
 unfolding low_bytes
-length-low_bytes [] = refl
-length-low_bytes (x ∷ l) = ap suc (length-low_bytes l)
+length-low_bytes l = length-map l (λ x. x % 256)
 
 -- an element's low eight bits
 pub get_or-low_bytes : (l : List ℕ) (k : ℕ) → get_or (low_bytes l) k 0 ≡ get_or l k 0 % 256
@@ -291,16 +197,12 @@ get_or-low_bytes (x ∷ l) (suc k) = get_or-low_bytes l k
 -- the low bytes of a front
 pub take-low_bytes : (n : ℕ) (l : List ℕ) → take n (low_bytes l) ≡ low_bytes (take n l)
 unfolding low_bytes
-take-low_bytes zero l = refl
-take-low_bytes (suc n) [] = refl
-take-low_bytes (suc n) (x ∷ l) = ap (λ (r : List ℕ). (x % 256) ∷ r) (take-low_bytes n l)
+take-low_bytes n l = take-map (λ x. x % 256) n l
 
 -- the low bytes of a rest
 pub drop-low_bytes : (n : ℕ) (l : List ℕ) → drop n (low_bytes l) ≡ low_bytes (drop n l)
 unfolding low_bytes
-drop-low_bytes zero l = refl
-drop-low_bytes (suc n) [] = refl
-drop-low_bytes (suc n) (x ∷ l) = drop-low_bytes n l
+drop-low_bytes n l = drop-map (λ x. x % 256) n l
 
 -- bytes are their own low bytes
 pub low_bytes_of_bytes : (l : List ℕ) → ((k : ℕ) → get_or l k 0 < 256) → low_bytes l ≡ l
@@ -339,9 +241,17 @@ false_of false h = refl
 pub ne_same : (a b : List ℕ) → (a ≡ b → ⊥) → same a b ≡ false
 ne_same a b h = false_of (same a b) (λ e. h (same_true a b e))
 
--- lists that differ at one position fail the test
-pub differ_same : (a b : List ℕ) (k : ℕ) → (get_or a k 0 ≡ get_or b k 0 → ⊥) → same a b ≡ false
-differ_same a b k h = ne_same a b (λ e. h (ap (λ (l : List ℕ). get_or l k 0) e))
+-- it is the library's `==` of slices
+pub pointwise_same : (a b : List ℕ) → pointwise eqb a b ≡ same a b
+unfolding same
+pointwise_same [] [] = refl
+pointwise_same [] (y ∷ b) = refl
+pointwise_same (x ∷ a) [] = refl
+pointwise_same (x ∷ a) (y ∷ b) = rw (pointwise_same a b)
+
+-- any test that passes just at equal lists is this one
+pub decided_same : (a b : List ℕ) (r : Bool) → Decides r (a ≡ b) → r ≡ same a b
+decided_same a b r d = same_from_decides r (same a b) d (same_true a b, eq_same a b)
 
 -- where both blocks lie within the list, the blocks are compared
 pub same_blocks_in : (first second count : ℕ) (l : List ℕ) → first + count ≤ length l → second + count ≤ length l → same_blocks first second count l ≡ same (block first count l) (block second count l)
@@ -366,49 +276,13 @@ same_bytes-true from count bytes l e =
     (leb-true (from + count) (length l) w.0, same_true (block from count l) bytes w.1)
 
 -- bytes that are more or fewer than the count fail the test
-pub same_bytes-count : (from count : ℕ) (bytes l : List ℕ) → (count ≡ length bytes → ⊥) → same_bytes from count bytes l ≡ false
-same_bytes-count from count bytes l h = false_of (same_bytes from count bytes l) other
+pub same_bytes_count : (from count : ℕ) (bytes l : List ℕ) → (count ≡ length bytes → ⊥) → same_bytes from count bytes l ≡ false
+same_bytes_count from count bytes l h = false_of (same_bytes from count bytes l) other
   where
     other : same_bytes from count bytes l ≡ true → ⊥
     other e =
         let w = same_bytes-true from count bytes l e in
         h (sym (block-length from count l w.0) ∙ ap length w.1)
-
--- where the bytes are as many as the count, all of them are compared
-pub same_bytes_whole : (from count : ℕ) (bytes l : List ℕ) → from + count ≤ length l → count ≡ length bytes → same_bytes from count bytes l ≡ same (block from count l) (block 0 count bytes)
-same_bytes_whole from count bytes l h e = same_bytes_in from count bytes l h ∙ ap (same (block from count l)) (sym (take_all count bytes (omega arith)))
-
--- ---- a comparison from the first element on, after `done` turns: blocks of `done` elements are equal
-
-pub record Agreeing (first second count : ℕ) (l m : List ℕ) (done : ℕ) : Type 0 where
-  pub in_first : first + count ≤ length l
-  pub in_second : second + count ≤ length m
-  pub bound : done ≤ count
-  pub so_far : block first done l ≡ block second done m
-
-module _ {first second count : ℕ} {l m : List ℕ} where
-  -- before the first turn nothing is compared
-  pub agreeing_start : first + count ≤ length l → second + count ≤ length m → Agreeing first second count l m 0
-  agreeing_start hf hs = record { in_first = hf; in_second = hs; bound = omega arith; so_far = refl }
-
-  -- one turn finds the next elements equal
-  pub agreeing_step : {done : ℕ} → Agreeing first second count l m done → done < count → get_or l (first + done) 0 ≡ get_or m (second + done) 0 → Agreeing first second count l m (done + 1)
-  agreeing_step {done} r b e = record {
-    in_first = r.in_first;
-    in_second = r.in_second;
-    bound = omega arith;
-    so_far = block_more first done l (omega arith) ∙ rw (r.so_far, e) (sym (block_more second done m (omega arith)));
-  }
-
-  -- or not equal
-  pub agreeing_not : {done : ℕ} → Agreeing first second count l m done → done < count → (get_or l (first + done) 0 ≡ get_or m (second + done) 0 → ⊥) → same (block first count l) (block second count m) ≡ false
-  agreeing_not {done} r b h = differ_same (block first count l) (block second count m) done (λ e. h (sym (block_at first count l done b) ∙ e ∙ block_at second count m done b))
-
-  -- after all turns the blocks are equal
-  pub agreeing_end : {done : ℕ} → Agreeing first second count l m done → count ≤ done → same (block first count l) (block second count m) ≡ true
-  agreeing_end {done} r h =
-      let e : done ≡ count = omega arith in
-      eq_same (block first count l) (block second count m) (rw e at r.so_far)
 
 -- ---- repeated
 
@@ -417,6 +291,12 @@ pub length-repeated : (n x : ℕ) → length (repeated n x) ≡ n
 unfolding repeated
 length-repeated zero x = refl
 length-repeated (suc n) x = ap suc (length-repeated n x)
+
+-- the library's list of so many times the same
+pub replicate_repeated : (n x : ℕ) → replicate n x ≡ repeated n x
+unfolding repeated
+replicate_repeated zero x = refl
+replicate_repeated (suc n) x = ap (λ (l : List ℕ). x ∷ l) (replicate_repeated n x)
 
 -- each of them the number
 pub get_or-repeated : (n x k : ℕ) → k < n → get_or (repeated n x) k 0 ≡ x
@@ -430,6 +310,12 @@ pub filled_in : (to count x : ℕ) (l : List ℕ) → to + count ≤ length l �
 filled_in to count x l h =
     let z = length-repeated count x in
     copied_in 0 to count (repeated count x) l (omega arith) h ∙ ap (λ (p : List ℕ). placed to p l) (take_all count (repeated count x) (omega arith))
+
+-- the list after a write of them to a part of a slice
+pub filled_part : (to count x : ℕ) (l : List ℕ) → to + count ≤ length l → filled to count x l ≡ put_mid to count l (repeated count x)
+filled_part to count x l h =
+    let z = length-repeated count x in
+    filled_in to count x l h ∙ rw (z, drop-drop) refl
 
 -- and nothing in place of none
 pub filled_none : (to x : ℕ) (l : List ℕ) → filled to 0 x l ≡ l

@@ -1,5 +1,5 @@
 -- Blocks of a list: `count` elements from a position on. A block that does not lie within its list has no effect.
-use Rattle.std.specs.Prelude.{ℕ, zero, suc, ◌+◌, ◌%◌, Bool, true, false, cond, ◌&&◌, List, [], ◌∷◌, ◌++◌, length, take, drop, eqb, leb}
+use Rattle.std.specs.Prelude.{ℕ, zero, suc, ◌+◌, ◌%◌, Bool, true, false, cond, ◌&&◌, List, [], ◌∷◌, ◌++◌, length, take, drop, map, eqb, leb}
 
 -- whether the block lies within the list
 abbrev pub within : ℕ → ℕ → List ℕ → Bool
@@ -22,8 +22,7 @@ moved from to count l = copied from to count l l
 
 -- the low eight bits of each element
 unfoldable pub low_bytes : List ℕ → List ℕ
-low_bytes [] = []
-low_bytes (x ∷ l) = (x % 256) ∷ low_bytes l
+low_bytes l = map (λ x. x % 256) l
 
 unfoldable pub same : List ℕ → List ℕ → Bool
 same [] [] = true

@@ -1,7 +1,0 @@
--- A position below the length is read from the list; past it the list has 0 by default.
-use mathlib.Core.Path.{sym}
-use lib.ListN.{get_or-eq_default}
-use Rattle.memory.proofs.read.Goals as goal
-
-pub returns-else-at-cells : goal.returns-else-at-cells
-returns-else-at-cells c = sym (get_or-eq_default c.args.cells.now 0 c.if-at-cells.false)
