@@ -8,7 +8,9 @@ use Rattle.std.specs.Prelude.{option_and_then}
 use lib.ListN.{length, drop, get_or, drop_of_length-le}
 use lib.Seq.{drop-cons}
 use lib.Dec.{eqb}
-use Rattle.language.specs.Signs.{Bytes, Table, Sign, plain, dollar, comma, semicolon, tilde, quote, unquote, sign_of_kind, sign_of}
+use Rattle.language.specs.declared.signs.Sign.{Sign}
+use Rattle.language.specs.declared.signs.Sign.TheVariants.{Plain, Dollar, Comma, Semicolon, Tilde, Quote, Unquote}
+use Rattle.language.specs.Signs.{Bytes, Table, sign_of_kind, sign_of}
 use Rattle.language.specs.Matched.{depth_by, depth_after}
 use Rattle.language.proofs.Quotes.{none_some}
 use Rattle.keys.specs.Scripts.{quote_kind, unquote_kind, closed, matched}
@@ -19,7 +21,7 @@ use Rattle.keys.specs.Scripts.{quote_kind, unquote_kind, closed, matched}
 pub depth_other : (kind d : ℕ) → eqb kind quote_kind ≡ false → eqb kind unquote_kind ≡ false → depth_by (sign_of_kind kind) d ≡ Some d
 depth_other kind d five six = rw (five, six) (go (eqb kind 1) (eqb kind 2) (eqb kind 3) (eqb kind 4))
   where
-    go : (a b c e : Bool) → depth_by (cond a dollar (cond b comma (cond c semicolon (cond e tilde plain)))) d ≡ Some d
+    go : (a b c e : Bool) → depth_by (cond a Dollar (cond b Comma (cond c Semicolon (cond e Tilde Plain)))) d ≡ Some d
     go true b c e = refl
     go false true c e = refl
     go false false true e = refl
@@ -36,14 +38,14 @@ depth_unquote kind (suc d) e h = ap (λ (k : ℕ). depth_by (sign_of_kind k) (su
 
 -- a byte makes it deeper by one at most
 depth_grows : (g : Sign) (d k : ℕ) → depth_by g d ≡ Some k → k ≤ suc d
-depth_grows plain d k e = let h : d ≡ k = cc in omega arith
-depth_grows dollar d k e = let h : d ≡ k = cc in omega arith
-depth_grows comma d k e = let h : d ≡ k = cc in omega arith
-depth_grows semicolon d k e = let h : d ≡ k = cc in omega arith
-depth_grows tilde d k e = let h : d ≡ k = cc in omega arith
-depth_grows quote d k e = let h : suc d ≡ k = cc in omega arith
-depth_grows unquote zero k e = absurd (none_some e)
-depth_grows unquote (suc d) k e = let h : d ≡ k = cc in omega arith
+depth_grows Plain d k e = let h : d ≡ k = cc in omega arith
+depth_grows Dollar d k e = let h : d ≡ k = cc in omega arith
+depth_grows Comma d k e = let h : d ≡ k = cc in omega arith
+depth_grows Semicolon d k e = let h : d ≡ k = cc in omega arith
+depth_grows Tilde d k e = let h : d ≡ k = cc in omega arith
+depth_grows Quote d k e = let h : suc d ≡ k = cc in omega arith
+depth_grows Unquote zero k e = absurd (none_some e)
+depth_grows Unquote (suc d) k e = let h : d ≡ k = cc in omega arith
 
 -- The first `done` of the wanted bytes lead to a depth, and what is read behind them decides.
 pub record Matching (T : Table) (wanted : Bytes) (done depth : ℕ) : Type 0 where
@@ -73,7 +75,7 @@ module _ {T : Table} {wanted : Bytes} where
       })
 
   -- an unquote where nothing is open
-  pub matching_lost : {done : ℕ} → Matching T wanted done 0 → done < length wanted → sign_of T (get_or wanted done 0) ≡ unquote → matched T wanted ≡ false
+  pub matching_lost : {done : ℕ} → Matching T wanted done 0 → done < length wanted → sign_of T (get_or wanted done 0) ≡ Unquote → matched T wanted ≡ false
   matching_lost {done} r h e =
       ap closed (matching_next r h ∙ ap (λ (g : Sign). option_and_then (λ k. depth_after T k (drop (suc done) wanted)) (depth_by g 0)) e)
 

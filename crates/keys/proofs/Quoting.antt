@@ -6,7 +6,9 @@ use mathlib.Core.List.{List, [], ◌∷◌, ◌++◌, append_assoc, append-nil}
 use Rattle.std.specs.Prelude.{Option, None, Some}
 use Rattle.std.specs.Prelude.{option_and_then}
 use lib.ListN.{length}
-use Rattle.language.specs.Signs.{Bytes, Table, Sign, plain, dollar, comma, semicolon, tilde, quote, unquote, sign_of, inside, meaning, language}
+use Rattle.language.specs.declared.signs.Sign.{Sign}
+use Rattle.language.specs.declared.signs.Sign.TheVariants.{Plain, Dollar, Comma, Semicolon, Tilde, Quote, Unquote}
+use Rattle.language.specs.Signs.{Bytes, Table, sign_of, inside, meaning, language}
 use Rattle.language.specs.Definitions.{Definition}
 use Rattle.language.specs.Scanning.{Standing, State, Step, next, stop, no_limits, scan, scans, start}
 use Rattle.language.specs.Scanning as S
@@ -53,14 +55,14 @@ module _ (T : Table) where
     where
       go : (g : Sign) (d : ℕ) → depth_by g d ≡ Some k
           → S.byte no_limits (language T) (inside d g) b (in_text (suc d) t (passed w)) ≡ next (in_text (suc k) t (copied_on (b ∷ []) w))
-      go plain d e = let h : d ≡ k = cc in rw h
-      go dollar d e = let h : d ≡ k = cc in rw h
-      go comma d e = let h : d ≡ k = cc in rw h
-      go semicolon d e = let h : d ≡ k = cc in rw h
-      go tilde d e = let h : d ≡ k = cc in rw h
-      go quote d e = let h : suc d ≡ k = cc in rw h
-      go unquote zero e = absurd (none_some e)
-      go unquote (suc d) e = let h : d ≡ k = cc in rw h
+      go Plain d e = let h : d ≡ k = cc in rw h
+      go Dollar d e = let h : d ≡ k = cc in rw h
+      go Comma d e = let h : d ≡ k = cc in rw h
+      go Semicolon d e = let h : d ≡ k = cc in rw h
+      go Tilde d e = let h : d ≡ k = cc in rw h
+      go Quote d e = let h : suc d ≡ k = cc in rw h
+      go Unquote zero e = absurd (none_some e)
+      go Unquote (suc d) e = let h : d ≡ k = cc in rw h
 
   -- so are all that lead from a depth to a depth
   copies_all : (bs : Bytes) (d k n : ℕ) (t : Bytes) (w : Standing) → depth_after T d bs ≡ Some k
@@ -88,17 +90,17 @@ module _ (T : Table) where
           ∙ ap (run n (suc k) t) (copied_more b bs w)
 
   -- a byte that is a quote, outside of quotes, is left out,
-  opens : (q : ℕ) (t : Bytes) (w : Standing) → sign_of T q ≡ quote → scan no_limits (language T) (in_text 0 (q ∷ t) w) ≡ next (in_text 1 t (passed w))
+  opens : (q : ℕ) (t : Bytes) (w : Standing) → sign_of T q ≡ Quote → scan no_limits (language T) (in_text 0 (q ∷ t) w) ≡ next (in_text 1 t (passed w))
   unfolding scan meaning
   opens q t w e = rw e refl
 
   -- and so is the unquote that closes it
-  closes : (u : ℕ) (t : Bytes) (w : Standing) → sign_of T u ≡ unquote → scan no_limits (language T) (in_text 1 (u ∷ t) w) ≡ next (in_text 0 t (passed w))
+  closes : (u : ℕ) (t : Bytes) (w : Standing) → sign_of T u ≡ Unquote → scan no_limits (language T) (in_text 1 (u ∷ t) w) ≡ next (in_text 0 t (passed w))
   unfolding scan meaning
   closes u t w e = rw e refl
 
   -- Matched bytes between a quote and an unquote are what the text gives, with outcome 0.
-  pub quoted : (q u : ℕ) (wanted : Bytes) (ds : List Definition) → sign_of T q ≡ quote → sign_of T u ≡ unquote → Matched T wanted
+  pub quoted : (q u : ℕ) (wanted : Bytes) (ds : List Definition) → sign_of T q ≡ Quote → sign_of T u ≡ Unquote → Matched T wanted
       → scans no_limits (language T) (length wanted + 3) (next (start (q ∷ (wanted ++ (u ∷ []))) ds)) ≡ stop (script_end wanted ds)
   unfolding scans scan
   quoted q u wanted ds eq eu m =

@@ -1,15 +1,21 @@
 -- Laws of the checks of a table, and which tables are accepted.
-use Prim.Native.Nat.{ℕ, zero, suc, ◌+◌, ◌-◌, ◌≤◌, ◌<◌, zero-le}
+use Prim.Native.Nat.{ℕ, zero, suc, ◌+◌, ◌-◌, ◌≤◌, ◌<◌}
 use native.Mathlib.Omega.{arith}
 use mathlib.Core.Path.{◌≡◌, refl, sym, ap, subst, ◌∙◌}
 use mathlib.Core.Logic.{◌↔◌}
 use mathlib.Core.Bool.{Bool, true, false, true≢false, cond, not, ◌&&◌, ◌||◌, or-false}
 use mathlib.Core.List.{List, [], ◌∷◌, ◌++◌}
 use Rattle.std.specs.Prelude.{Option, None, Some}
-use lib.ListN.{length, get_or}
+use lib.ListN.{length, get_or, take}
+use Rattle.std.proofs.lemmas.List.{take_all}
+use Rattle.std.proofs.lemmas.List.Sums.{count_by_more_yes, count_by_more_no}
+use Rattle.std.specs.Prelude.{count_by}
+use Rattle.std.specs.List.{list_any}
+use Rattle.std.proofs.lemmas.List.Folds.{list_any_more}
 use lib.Dec.{eqb, leb, ltb}
-use borrow.Author.Tests.{ltb-true, ltb-false, eqb-true, eqb-false, not-false, le-leb, lt-leb, lt-ltb, le-ltb, eq-eqb, ne_eqb}
-use Rattle.language.specs.Signs.{Table, plain, sign_of_kind, sign_of, standard}
+use borrow.Author.Tests.{ltb-true, ltb-false, eqb-true, eqb-false, not-false, le-leb, lt-leb, le-ltb, eq-eqb, ne_eqb}
+use Rattle.language.specs.declared.signs.Sign.TheVariants.{Plain}
+use Rattle.language.specs.Signs.{Table, sign_of_kind, sign_of, standard}
 use Rattle.language.specs.Outcomes
 use Rattle.language.specs.Matched.{All, empty, with}
 use Rattle.language.specs.Refusals.{Refusal, refused_by, some_below, count_below, is_above, not_a_table, has_kind, not_one_byte, sign_not_one_byte, is_reserved, is_reserved_sign, reserved_sign, sizes_too_large, sign_refusals, lent_refusals, AcceptedTable}
@@ -115,75 +121,62 @@ single_counts (suc n) test s = go (test n) refl (single_counts n test)
       only = λ k below. s.only k (omega (arith, below));
     })
 
--- How far a search among the numbers below n has come: the test holds of none below k.
-pub record Searched (n : ℕ) (test : ℕ → Bool) (k : ℕ) : Type 0 where
-  pub inside : k ≤ n
-  pub none : some_below k test ≡ false
+-- What the code computes ------------------------------------------------------------------------------------------------
 
-pub searched_start : {n : ℕ} {test : ℕ → Bool} → Searched n test 0
-unfolding some_below
-searched_start = record { inside = zero-le; none = refl }
+-- whether an item passes a test, where the numbers below n have the same
+module _ {X : Type 0} (passes : X → Bool) (xs : List X) (d : X) (test : ℕ → Bool) where
+  some_first : (n : ℕ) → n ≤ length xs → ((k : ℕ) → k < n → passes (get_or xs k d) ≡ test k) → list_any passes (take n xs) ≡ some_below n test
+  unfolding some_below
+  some_first zero h same = refl
+  some_first (suc n) h same = go (test n) (same n (omega arith)) (some_first n (omega arith) (λ k below. same k (omega (arith, below))))
+    where
+      go : (t : Bool) → passes (get_or xs n d) ≡ t → list_any passes (take n xs) ≡ some_below n test
+          → list_any passes (take (suc n) xs) ≡ cond t true (some_below n test)
+      go t last first =
+          let here : n < length xs = omega arith in
+          let next : suc n ≡ n + 1 = omega arith in
+          rw (next, list_any_more passes xs n d here, last, first) (either (some_below n test) t)
+        where
+          either : (a b : Bool) → (a || b) ≡ cond b true a
+          either true true = refl
+          either true false = refl
+          either false true = refl
+          either false false = refl
 
-pub searched_step : {n k : ℕ} {test : ℕ → Bool} → Searched n test k → k < n → test k ≡ false → Searched n test (k + 1)
-unfolding some_below
-searched_step {n} {k} {test} s h e =
-    let next : k + 1 ≡ suc k = omega arith in
-    rw next (record { inside = omega arith; none = ap (λ (t : Bool). cond t true (some_below k test)) e ∙ s.none })
+  pub some_item : (n : ℕ) → length xs ≡ n → ((k : ℕ) → k < n → passes (get_or xs k d) ≡ test k) → list_any passes xs ≡ some_below n test
+  some_item n h same = let all : take n xs ≡ xs = take_all n xs (omega (arith, h)) in ap (list_any passes) (sym all) ∙ some_first n (omega (arith, h)) same
 
-pub searched_end : {n k : ℕ} {test : ℕ → Bool} → Searched n test k → n ≤ k → some_below n test ≡ false
-searched_end {n} {k} {test} s h = let all : n ≡ k = omega (arith, s.inside) in ap (λ (j : ℕ). some_below j test) all ∙ s.none
+-- how many entries of a table pass a test
+module _ (passes : ℕ → Bool) (T : Table) where
+  abbrev of_entry : ℕ → Bool
+  of_entry b = passes (get_or T b 0)
 
--- an entry above 6 makes it no table
-pub above_found : (T : List ℕ) (k : ℕ) → length T ≡ 256 → k < 256 → 6 < get_or T k 0 → true ≡ not_a_table T
-above_found T k long inside above = rw (eq-eqb (length T) 256 long) (sym (some_found 256 k (is_above T) inside (lt-ltb 6 (get_or T k 0) above)))
+  counted_first : (n : ℕ) → n ≤ length T → count_by passes (take n T) ≡ count_below n of_entry
+  unfolding count_below
+  counted_first zero h = refl
+  counted_first (suc n) h = go (of_entry n) refl (counted_first n (omega arith))
+    where
+      go : (t : Bool) → of_entry n ≡ t → count_by passes (take n T) ≡ count_below n of_entry
+          → count_by passes (take (suc n) T) ≡ cond t (suc (count_below n of_entry)) (count_below n of_entry)
+      go true p first = let here : n < length T = omega arith in let next : suc n ≡ n + 1 = omega arith in ap (λ (k : ℕ). count_by passes (take k T)) next ∙ count_by_more_yes passes T n 0 here p ∙ omega (arith, first)
+      go false p first = let here : n < length T = omega arith in let next : suc n ≡ n + 1 = omega arith in ap (λ (k : ℕ). count_by passes (take k T)) next ∙ count_by_more_no passes T n 0 here p ∙ first
 
--- How far a count has come.
-pub record Counted (n : ℕ) (test : ℕ → Bool) (k count : ℕ) : Type 0 where
-  pub inside : k ≤ n
-  pub below : count ≤ k
-  pub counts : count ≡ count_below k test
-
-pub counted_start : {n : ℕ} {test : ℕ → Bool} → Counted n test 0 0
-unfolding count_below
-counted_start = record { inside = zero-le; below = zero-le; counts = refl }
-
-pub counted_one : {n k count : ℕ} {test : ℕ → Bool} → Counted n test k count → k < n → test k ≡ true → Counted n test (k + 1) (count + 1)
-unfolding count_below
-counted_one {n} {k} {count} {test} c h e =
-    let next : k + 1 ≡ suc k = omega arith in
-    let more : count + 1 ≡ suc count = omega arith in
-    rw (next, more) (record { inside = omega arith; below = omega (arith, c.below); counts = rw e (ap suc c.counts) })
-
-pub counted_none : {n k count : ℕ} {test : ℕ → Bool} → Counted n test k count → k < n → test k ≡ false → Counted n test (k + 1) count
-unfolding count_below
-counted_none {n} {k} {count} {test} c h e =
-    let next : k + 1 ≡ suc k = omega arith in
-    rw next (record { inside = omega arith; below = omega (arith, c.below); counts = rw e c.counts })
-
-pub counted_end : {n k count : ℕ} {test : ℕ → Bool} → Counted n test k count → n ≤ k → count ≡ count_below n test
-counted_end {n} {k} {count} {test} c h = let all : k ≡ n = omega (arith, c.inside) in c.counts ∙ ap (λ (j : ℕ). count_below j test) all
+  pub counted_entries : (n : ℕ) → length T ≡ n → count_by passes T ≡ count_below n of_entry
+  counted_entries n h = let all : take n T ≡ T = take_all n T (omega (arith, h)) in ap (count_by passes) (sym all) ∙ counted_first n (omega (arith, h))
 
 -- The reserved bytes ---------------------------------------------------------------------------------------------------
 
--- by the ranges in which the code looks for them
+-- by the ranges that they stand in
 module _ (b : ℕ) where
   pub reserved_from_97 : 97 ≤ b → is_reserved b ≡ leb b 122
   reserved_from_97 h =
       rw (le-leb 97 b h, le-leb 65 b (omega arith), lt-leb b 90 (omega arith), le-leb 48 b (omega arith), lt-leb b 57 (omega arith), ne_eqb b 43 (λ e. omega arith), ne_eqb b 45 (λ e. omega arith), ne_eqb b 42 (λ e. omega arith))
       (or-false (leb b 122))
 
-  pub reserved_from_65 : 65 ≤ b → b < 97 → is_reserved b ≡ leb b 90
-  reserved_from_65 h below =
-      rw (lt-leb 97 b below, le-leb 65 b h, le-leb 48 b (omega arith), lt-leb b 57 (omega arith), ne_eqb b 43 (λ e. omega arith), ne_eqb b 45 (λ e. omega arith), ne_eqb b 42 (λ e. omega arith))
-      (or-false (leb b 90))
-
   pub reserved_from_48 : 48 ≤ b → b < 65 → is_reserved b ≡ leb b 57
   reserved_from_48 h below =
       rw (lt-leb 97 b (omega arith), lt-leb 65 b below, le-leb 48 b h, ne_eqb b 43 (λ e. omega arith), ne_eqb b 45 (λ e. omega arith), ne_eqb b 42 (λ e. omega arith))
       (or-false (leb b 57))
-
-  pub reserved_below_48 : b < 48 → is_reserved b ≡ (eqb b 43 || (eqb b 45 || eqb b 42))
-  reserved_below_48 below = rw (lt-leb 97 b (omega arith), lt-leb 65 b (omega arith), lt-leb 48 b below) refl
 
   -- digits and lower-case letters are such bytes
   pub digit_reserved : 48 ≤ b → b ≤ 57 → is_reserved b ≡ true
@@ -308,7 +301,7 @@ module _ (T : Table) where
   accepted_exactly = (accepted_is, is_accepted)
 
   -- In an accepted table letters, digits, `+`, `-` and `*` are plain.
-  pub accepted_plain : AcceptedTable T → (b : ℕ) → is_reserved b ≡ true → sign_of T b ≡ plain
+  pub accepted_plain : AcceptedTable T → (b : ℕ) → is_reserved b ≡ true → sign_of T b ≡ Plain
   accepted_plain a b r = ap sign_of_kind ((accepted_is a).reserved b r)
 
 -- What a call that is not refused was lent: sizes within the limits, and such a table.

@@ -9,7 +9,9 @@ use mathlib.Core.Logic.{◌↔◌}
 use lib.ListN.{length, length-append}
 use lib.Dec.{ltb, leb-suc-suc, lt→ltb}
 use lib.Ieee.Bits.{is_true}
-use Rattle.language.specs.Signs.{Bytes, Language, copied, meaning, outside, inside, closes_to, Sign, plain, dollar, comma, semicolon, tilde, quote, unquote, sign_of}
+use Rattle.language.specs.declared.signs.Sign.{Sign}
+use Rattle.language.specs.declared.signs.Sign.TheVariants.{Plain, Dollar, Comma, Semicolon, Tilde, Quote, Unquote}
+use Rattle.language.specs.Signs.{Bytes, Language, copied, meaning, outside, inside, closes_to, sign_of}
 use Rattle.language.specs.Definitions.{Definition, defined, altered, oldest, newer, between, without}
 use Rattle.language.specs.BuiltIns.{Deed, reads, defines, gives, alters, faulty, deed, parameter}
 use Rattle.language.specs.Charge.{open_price, end_price, arguments_price, list_price, definitions_price}
@@ -537,16 +539,16 @@ module _ (G : Language) where
           → scan G s ≡ S.byte no_limits G (outside sg) b (at F C 0 r h) → length r ≤ n
           → To' m s (R.byte nested go G (outside sg) (source_of F) (collecting_of C) reading b r h)
       unfolding To
-      outside_comes plain b r h s g e l = copied_comes 0 0 b r h s g e l
-      outside_comes dollar b r h s g e l = call_comes r h s g e l
-      outside_comes comma b r h s g e l =
+      outside_comes Plain b r h s g e l = copied_comes 0 0 b r h s g e l
+      outside_comes Dollar b r h s g e l = call_comes r h s g e l
+      outside_comes Comma b r h s g e l =
           goes s 0 r (R.divide (collecting_of C) b h) (now (e ∙ divide_at F C base b r h g)) (good_divide F C base b h g) l
-      outside_comes semicolon b r h s g e l =
+      outside_comes Semicolon b r h s g e l =
           apply_comes d m base nested go F C b r h s g (e ∙ ap (λ o. S.apply no_limits o b (at F C 0 r h)) (own_at F C reading f 0 r h)) (omega arith)
           (puts s r h g l)
-      outside_comes tilde b r h s g e l = fetch_comes d m base nested go F C b r h s e λ r' l'. puts s r' h g (omega arith)
-      outside_comes quote b r h s g e l = goes s 1 r h (now e) g l
-      outside_comes unquote b r h s g e l = unquote_comes d m base nested go F C b r h s e (puts s r h g l)
+      outside_comes Tilde b r h s g e l = fetch_comes d m base nested go F C b r h s e λ r' l'. puts s r' h g (omega arith)
+      outside_comes Quote b r h s g e l = goes s 1 r h (now e) g l
+      outside_comes Unquote b r h s g e l = unquote_comes d m base nested go F C b r h s e (puts s r h g l)
 
       closes_comes : (q b : ℕ) (r : Bytes) (h : Held) (s : State) → Good F C base h
           → scan G s ≡ S.byte no_limits G (closes_to q) b (at F C (suc q) r h) → length r ≤ n
@@ -557,13 +559,13 @@ module _ (G : Language) where
       inside_comes : (q : ℕ) (sg : Sign) (b : ℕ) (r : Bytes) (h : Held) (s : State) → Good F C base h
           → scan G s ≡ S.byte no_limits G (inside q sg) b (at F C (suc q) r h) → length r ≤ n
           → To' m s (R.byte nested go G (inside q sg) (source_of F) (collecting_of C) reading b r h)
-      inside_comes q plain b r h s g e l = copied_comes (suc q) (suc q) b r h s g e l
-      inside_comes q dollar b r h s g e l = copied_comes (suc q) (suc q) b r h s g e l
-      inside_comes q comma b r h s g e l = copied_comes (suc q) (suc q) b r h s g e l
-      inside_comes q semicolon b r h s g e l = copied_comes (suc q) (suc q) b r h s g e l
-      inside_comes q tilde b r h s g e l = copied_comes (suc q) (suc q) b r h s g e l
-      inside_comes q quote b r h s g e l = copied_comes (suc q) (suc (suc q)) b r h s g e l
-      inside_comes q unquote b r h s g e l = closes_comes q b r h s g e l
+      inside_comes q Plain b r h s g e l = copied_comes (suc q) (suc q) b r h s g e l
+      inside_comes q Dollar b r h s g e l = copied_comes (suc q) (suc q) b r h s g e l
+      inside_comes q Comma b r h s g e l = copied_comes (suc q) (suc q) b r h s g e l
+      inside_comes q Semicolon b r h s g e l = copied_comes (suc q) (suc q) b r h s g e l
+      inside_comes q Tilde b r h s g e l = copied_comes (suc q) (suc q) b r h s g e l
+      inside_comes q Quote b r h s g e l = copied_comes (suc q) (suc (suc q)) b r h s g e l
+      inside_comes q Unquote b r h s g e l = closes_comes q b r h s g e l
 
       byte_comes : (q b : ℕ) (r : Bytes) (h : Held) → Good F C base h → length r ≤ n
           → To' m (at F C q (b ∷ r) h) (R.byte nested go G (meaning G.table q b) (source_of F) (collecting_of C) reading b r (scanned_byte (source_of F) h))

@@ -129,8 +129,8 @@ passes a b {ds} {ds₁} stays order within {m} = record { keeps = λ p l n. keep
 -- where the list of a built-in's call goes, the oldest a are left
 passes_oldest : (a : ℕ) {ds ds₁ : List Definition} → Stays ds ds₁ → a ≤ length ds → {m : ℕ} → Passes (a, length ds) ds m (oldest a ds₁)
 passes_oldest a {ds} {ds₁} stays h {m} =
-    let None : length ds₁ - length ds ≡ 0 = omega (arith, stays.count) in
-    subst (λ (i : ℕ). Passes (a, length ds) ds m (take i ds₁ ++ oldest a ds₁)) None (passes a (length ds) stays h (omega (arith, stays.count)))
+    let none : length ds₁ - length ds ≡ 0 = omega (arith, stays.count) in
+    subst (λ (i : ℕ). Passes (a, length ds) ds m (take i ds₁ ++ oldest a ds₁)) none (passes a (length ds) stays h (omega (arith, stays.count)))
 
 -- where nothing goes
 passes_all : (ds : List Definition) {m : ℕ} → Passes (length ds, length ds) ds m ds

@@ -16,7 +16,9 @@ use Rattle.decimal.specs.declared.operations.Operation.{Operation}
 use Rattle.decimal.specs.Operand.{operand, in_range}
 use Rattle.decimal.specs.Arithmetic.{Result, divides, is_zero, exact, of_operands}
 use Rattle.decimal.specs.Shortest.{digits_of, shortest}
-use Rattle.language.specs.Signs.{Bytes, Table, Sign, plain, dollar, comma, semicolon, tilde, quote, unquote, sign_of, Meaning, copied, left_out, opens, separates, applies, fetches, unquotes, outside, inside, meaning, parameter_digit, parameter_number, language}
+use Rattle.language.specs.declared.signs.Sign.{Sign}
+use Rattle.language.specs.declared.signs.Sign.TheVariants.{Plain, Dollar, Comma, Semicolon, Tilde, Quote, Unquote}
+use Rattle.language.specs.Signs.{Bytes, Table, sign_of, Meaning, copied, left_out, opens, separates, applies, fetches, unquotes, outside, inside, meaning, parameter_digit, parameter_number, language}
 use Rattle.language.specs.Outcomes
 use Rattle.language.specs.Outcomes.{finishes}
 use Rattle.language.specs.Refusals.{is_reserved, AcceptedTable}
@@ -47,7 +49,7 @@ module _ {A : Type 0} (P : ℕ → A → Type 0) where
 
 -- the bytes of built-in names, of numbers and of parameters after `~` are no signs
 abbrev ReservedPlain : Table → Type 0
-ReservedPlain T = (b : ℕ) → is_reserved b ≡ true → sign_of T b ≡ plain
+ReservedPlain T = (b : ℕ) → is_reserved b ≡ true → sign_of T b ≡ Plain
 
 -- Depths -------------------------------------------------------------------------------------------------------------
 
@@ -81,7 +83,7 @@ module _ (T : Table) where
       go (Some k) = refl
 
   -- a plain byte leaves the depth
-  depth_plain : (q b : ℕ) (bs : Bytes) → sign_of T b ≡ plain → depth_after T q (b ∷ bs) ≡ depth_after T q bs
+  depth_plain : (q b : ℕ) (bs : Bytes) → sign_of T b ≡ Plain → depth_after T q (b ∷ bs) ≡ depth_after T q bs
   unfolding depth_after
   depth_plain q b bs e = ap (λ (g : Sign). option_and_then (λ k. depth_after T k bs) (depth_by g q)) e
 
@@ -107,23 +109,23 @@ data Means (g : Sign) : ℕ → Option ℕ → Meaning → Type 0 where
 
 -- the meaning of every sign fits, outside of quotes and inside
 means_outside : (g : Sign) → Means g 0 (depth_by g 0) (outside g)
-means_outside plain = copying refl
-means_outside dollar = opening
-means_outside comma = separating refl
-means_outside semicolon = applying refl
-means_outside tilde = fetching refl
-means_outside quote = leaving refl
-means_outside unquote = unquoting
+means_outside Plain = copying refl
+means_outside Dollar = opening
+means_outside Comma = separating refl
+means_outside Semicolon = applying refl
+means_outside Tilde = fetching refl
+means_outside Quote = leaving refl
+means_outside Unquote = unquoting
 
 means_inside : (q : ℕ) (g : Sign) → Means g (suc q) (depth_by g (suc q)) (inside q g)
-means_inside q plain = copying refl
-means_inside q dollar = copying refl
-means_inside q comma = copying refl
-means_inside q semicolon = copying refl
-means_inside q tilde = copying refl
-means_inside q quote = copying refl
-means_inside zero unquote = leaving refl
-means_inside (suc q) unquote = copying refl
+means_inside q Plain = copying refl
+means_inside q Dollar = copying refl
+means_inside q Comma = copying refl
+means_inside q Semicolon = copying refl
+means_inside q Tilde = copying refl
+means_inside q Quote = copying refl
+means_inside zero Unquote = leaving refl
+means_inside (suc q) Unquote = copying refl
 
 means : (T : Table) (q b : ℕ) → Means (sign_of T b) q (depth_by (sign_of T b) q) (meaning T q b)
 unfolding meaning
@@ -196,16 +198,16 @@ module _ (T : Table) where
 
   module _ (plainly : ReservedPlain T) where
     -- a byte that stands for a parameter is no sign
-    number_plain : (b k : ℕ) → parameter_number b ≡ Some k → sign_of T b ≡ plain
+    number_plain : (b k : ℕ) → parameter_number b ≡ Some k → sign_of T b ≡ Plain
     number_plain b k = by_letter (leb 97 b) refl (leb b 122) refl
       where
-        by_digit : (x : Bool) → leb 48 b ≡ x → (y : Bool) → leb b 57 ≡ y → cond (x && y) (Some (b - 48)) None ≡ Some k → sign_of T b ≡ plain
+        by_digit : (x : Bool) → leb 48 b ≡ x → (y : Bool) → leb b 57 ≡ y → cond (x && y) (Some (b - 48)) None ≡ Some k → sign_of T b ≡ Plain
         by_digit true p true p' e = plainly b (digit_reserved b (leb-true 48 b p) (leb-true b 57 p'))
         by_digit true p false p' e = absurd (none_some e)
         by_digit false p y p' e = absurd (none_some e)
 
         by_letter : (x : Bool) → leb 97 b ≡ x → (y : Bool) → leb b 122 ≡ y
-            → cond (x && y) (Some (b - 97 + 10)) (parameter_digit b) ≡ Some k → sign_of T b ≡ plain
+            → cond (x && y) (Some (b - 97 + 10)) (parameter_digit b) ≡ Some k → sign_of T b ≡ Plain
         by_letter true p true p' e = plainly b (letter_reserved b (leb-true 97 b p) (leb-true b 122 p'))
         by_letter true p false p' e = by_digit (leb 48 b) refl (leb b 57) refl e
         by_letter false p y p' e = by_digit (leb 48 b) refl (leb b 57) refl e

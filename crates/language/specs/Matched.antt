@@ -3,20 +3,22 @@
 use Rattle.std.specs.Prelude.{ℕ, zero, suc, pred, ◌≡◌, List, [], ◌∷◌}
 use Rattle.std.specs.Prelude.{Option, None, Some}
 use Rattle.std.specs.Prelude.{option_and_then}
-use Rattle.language.specs.Signs.{Bytes, Table, Sign, plain, dollar, comma, semicolon, tilde, quote, unquote, sign_of}
+use Rattle.language.specs.declared.signs.Sign.{Sign}
+use Rattle.language.specs.declared.signs.Sign.TheVariants.{Plain, Dollar, Comma, Semicolon, Tilde, Quote, Unquote}
+use Rattle.language.specs.Signs.{Bytes, Table, sign_of}
 use Rattle.language.specs.Definitions.{Content, macro, built_in, Definition}
 use Rattle.language.specs.Scanning.{Call, Body, State}
 
 -- the depth of quotes after a sign that is read at depth q: none after an unquote where nothing is open
 abbrev pub depth_by : Sign → ℕ → Option ℕ
-depth_by plain q = Some q
-depth_by dollar q = Some q
-depth_by comma q = Some q
-depth_by semicolon q = Some q
-depth_by tilde q = Some q
-depth_by quote q = Some (suc q)
-depth_by unquote zero = None
-depth_by unquote (suc q) = Some q
+depth_by Plain q = Some q
+depth_by Dollar q = Some q
+depth_by Comma q = Some q
+depth_by Semicolon q = Some q
+depth_by Tilde q = Some q
+depth_by Quote q = Some (suc q)
+depth_by Unquote zero = None
+depth_by Unquote (suc q) = Some q
 
 -- the depth of quotes after bytes that are read from depth q on
 unfoldable pub depth_after : Table → ℕ → Bytes → Option ℕ

@@ -4,6 +4,8 @@ use Rattle.std.specs.Prelude.{Option, None, Some}
 use Rattle.language.specs.Signs.{Bytes, Language, Meaning, copied, left_out, opens, separates, applies, fetches, unquotes, meaning, language}
 use Rattle.language.specs.Outcomes
 use Rattle.language.specs.Refusals.{Refusal, refused_by}
+use Rattle.language.specs.declared.rules.Rule.{Rule}
+use Rattle.language.specs.declared.rules.Rule.TheVariants.{CopiedFromText, CopiedFromBody, Fetched, GivenByVal, GivenByBuiltIn}
 use Rattle.language.specs.declared.built_ins.BuiltIn.{BuiltIn}
 use Rattle.language.specs.declared.built_ins.BuiltIn.TheVariants.{Def, Val, Update, Arithmetic, Seq, Size, If, Lock}
 use Rattle.language.specs.Definitions.{macro, built_in, Found, found, missing, newest}
@@ -28,6 +30,14 @@ given_by_val = 4
 
 abbrev pub given_by_built_in : ℕ
 given_by_built_in = 5
+
+-- the number of a rule of the code
+abbrev pub rule_number : Rule → ℕ
+rule_number CopiedFromText = copied_from_text
+rule_number CopiedFromBody = copied_from_body
+rule_number Fetched = fetched
+rule_number GivenByVal = given_by_val
+rule_number GivenByBuiltIn = given_by_built_in
 
 -- What a scan writes, and by which rule ------------------------------------------------------------------------------
 

@@ -1,5 +1,8 @@
 -- Document 01, What a run reports: each number of the table, by name; and those of document 02.
 use Rattle.std.specs.Prelude.{ℕ, Bool, ◌&&◌, ◌||◌, eqb, leb}
+use Rattle.decimal.specs.Arithmetic.{not_a_number, divisor_zero, result_out_of_range}
+use Rattle.language.specs.declared.outcomes.Outcome.{Outcome}
+use Rattle.language.specs.declared.outcomes.Outcome.TheVariants.{Finished, FinishedAtQuote, TooLarge, NoScansLeft, NoCellsLeft, NoOutputLeft, AppliesNothing, ParameterInText, FetchesNothing, NotSupplied, BodyInCall, NotDefined, QuoteInCall, TextInQuotes, TextInCall, BuiltIn, BodyBeingRead, UpdateTooLong, NotANumber, DivisorZero, ResultOutOfRange, NotATable, SignNotOneByte, ReservedSign, EmptyName, NoScript, NumbersTooShort, Locked}
 
 abbrev pub finished : ℕ
 finished = 0
@@ -82,6 +85,37 @@ numbers_too_short = 35
 -- Document 02, Nine: "36, a fault of the text, for UPDATE of a locked definition"
 abbrev pub locked : ℕ
 locked = 36
+
+-- the number of an outcome of the code
+abbrev pub number_of : Outcome → ℕ
+number_of Finished = finished
+number_of FinishedAtQuote = finished_at_quote
+number_of TooLarge = too_large
+number_of NoScansLeft = no_scans_left
+number_of NoCellsLeft = no_cells_left
+number_of NoOutputLeft = no_output_left
+number_of AppliesNothing = applies_nothing
+number_of ParameterInText = parameter_in_text
+number_of FetchesNothing = fetches_nothing
+number_of NotSupplied = not_supplied
+number_of BodyInCall = body_in_call
+number_of NotDefined = not_defined
+number_of QuoteInCall = quote_in_call
+number_of TextInQuotes = text_in_quotes
+number_of TextInCall = text_in_call
+number_of BuiltIn = built_in
+number_of BodyBeingRead = body_being_read
+number_of UpdateTooLong = update_too_long
+number_of NotANumber = not_a_number
+number_of DivisorZero = divisor_zero
+number_of ResultOutOfRange = result_out_of_range
+number_of NotATable = not_a_table
+number_of SignNotOneByte = sign_not_one_byte
+number_of ReservedSign = reserved_sign
+number_of EmptyName = empty_name
+number_of NoScript = no_script
+number_of NumbersTooShort = numbers_too_short
+number_of Locked = locked
 
 -- "A run finishes with 0 or 1"
 abbrev pub finishes : ℕ → Bool

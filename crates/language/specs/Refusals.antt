@@ -1,11 +1,10 @@
 -- What a call is refused for before its first scan, and document 02, Two: the checks of a table that a caller lends.
 use Rattle.std.specs.Prelude.{ℕ, zero, suc, ◌+◌, ◌≡◌, Bool, true, false, cond, ◌&&◌, ◌||◌, not, List, [], ◌∷◌, length, get_or, eqb, leb, ltb}
-use Rattle.std.specs.Prelude.{Option, None, Some}
+use Rattle.std.specs.Prelude.{Option, None, Some, Result, Ok, Err}
 use Rattle.decimal.specs.Operand.{is_digit}
 use Rattle.language.specs.Signs.{Table, is_letter, text_limit, cells_limit, output_limit}
 use Rattle.language.specs.Outcomes
-use Rattle.language.specs.declared.refusals.Verdict.{Verdict}
-use Rattle.language.specs.declared.refusals.Verdict.TheVariants.{Accepted, Refused}
+use Rattle.language.specs.declared.outcomes.Outcome.{Outcome}
 
 -- an outcome that a call has before its first scan, and whether it holds
 pub record Refusal : Type 0 where
@@ -83,7 +82,7 @@ lent_refusals text cells output T = record { outcome = Outcomes.too_large; holds
 abbrev pub AcceptedTable : Table → Type 0
 AcceptedTable T = refused_by (sign_refusals T) ≡ None
 
--- what the code's verdict stands for: no refusal, or the outcome of one
-abbrev pub refusal_in : Verdict → Option ℕ
-refusal_in Accepted = None
-refusal_in (Refused outcome) = Some outcome
+-- what a call of the code comes to by its checks: no refusal, or the number of one
+abbrev pub refusal_in : {T : Type 0} → Result T Outcome → Option ℕ
+refusal_in (Ok x) = None
+refusal_in (Err outcome) = Some (Outcomes.number_of outcome)

@@ -4,6 +4,8 @@ use Prim.Native.Char.{code}
 use Prim.Native.String.{String}
 use Rattle.std.specs.Prelude.{Option, None, Some}
 use Rattle.decimal.specs.Operand.{is_digit}
+use Rattle.language.specs.declared.signs.Sign.{Sign}
+use Rattle.language.specs.declared.signs.Sign.TheVariants.{Plain, Dollar, Comma, Semicolon, Tilde, Quote, Unquote}
 
 -- "A text is bytes, each 8 bits."
 abbrev pub Bytes : Type 0
@@ -18,17 +20,14 @@ ascii (String.◌∷◌ c s) = code c ∷ ascii s
 abbrev pub Table : Type 0
 Table = List ℕ
 
-pub data Sign : Type 0 where
-  plain dollar comma semicolon tilde quote unquote : Sign
-
 abbrev pub sign_of_kind : ℕ → Sign
 sign_of_kind k =
-    cond (eqb k 1) dollar
-    (cond (eqb k 2) comma
-    (cond (eqb k 3) semicolon
-    (cond (eqb k 4) tilde
-    (cond (eqb k 5) quote
-    (cond (eqb k 6) unquote plain)))))
+    cond (eqb k 1) Dollar
+    (cond (eqb k 2) Comma
+    (cond (eqb k 3) Semicolon
+    (cond (eqb k 4) Tilde
+    (cond (eqb k 5) Quote
+    (cond (eqb k 6) Unquote Plain)))))
 
 abbrev pub sign_of : Table → ℕ → Sign
 sign_of T b = sign_of_kind (get_or T b 0)
@@ -40,13 +39,13 @@ pub data Meaning : Type 0 where
   opens separates applies fetches unquotes : Meaning
 
 abbrev pub outside : Sign → Meaning
-outside plain = copied 0
-outside dollar = opens
-outside comma = separates
-outside semicolon = applies
-outside tilde = fetches
-outside quote = left_out 1
-outside unquote = unquotes
+outside Plain = copied 0
+outside Dollar = opens
+outside Comma = separates
+outside Semicolon = applies
+outside Tilde = fetches
+outside Quote = left_out 1
+outside Unquote = unquotes
 
 -- One Scan: "the outermost pair is dropped, inner ones are copied. Inside, only quotes are recognised."
 abbrev pub closes_to : ℕ → Meaning
@@ -55,13 +54,13 @@ closes_to (suc q) = copied (suc q)
 
 -- inside of q + 1 pairs of quotes
 abbrev pub inside : ℕ → Sign → Meaning
-inside q plain = copied (suc q)
-inside q dollar = copied (suc q)
-inside q comma = copied (suc q)
-inside q semicolon = copied (suc q)
-inside q tilde = copied (suc q)
-inside q quote = copied (suc (suc q))
-inside q unquote = closes_to q
+inside q Plain = copied (suc q)
+inside q Dollar = copied (suc q)
+inside q Comma = copied (suc q)
+inside q Semicolon = copied (suc q)
+inside q Tilde = copied (suc q)
+inside q Quote = copied (suc (suc q))
+inside q Unquote = closes_to q
 
 unfoldable pub meaning : Table → ℕ → ℕ → Meaning
 meaning T zero b = outside (sign_of T b)

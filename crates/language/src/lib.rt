@@ -6,6 +6,7 @@ pub mod built_ins;
 pub mod outcomes;
 pub mod refusals;
 pub mod rules;
+pub mod signs;
 
 ghost use Rattle.std.specs.Prelude.{◌≡◌};
 ghost use Rattle.language.specs.Signs.{standard};
@@ -40,12 +41,8 @@ impl Sizes {
     pub fn too_large(self) -> bool
         ensures { result ≡ sizes_too_large self.text self.cells self.output }
     {
-        if self.text > Sizes::TEXT_LIMIT {
-            return true;
-        }
-        if self.cells > Sizes::CELLS_LIMIT {
-            return true;
-        }
-        self.output > Sizes::OUTPUT_LIMIT
+        self.text > Sizes::TEXT_LIMIT
+            || self.cells > Sizes::CELLS_LIMIT
+            || self.output > Sizes::OUTPUT_LIMIT
     }
 }

@@ -1,50 +1,72 @@
-// The outcomes of documents 01 and 02, under the words of specs/Outcomes.antt. 22 to 24 are the arithmetic's, in crate decimal.
-pub const FINISHED: u32 = 0;
+// The outcomes of documents 01 and 02, by name, and the number of each, which a report gives. 22 to 24 are the arithmetic's.
+ghost use Rattle.std.specs.Prelude.{◌≡◌};
+ghost use Rattle.language.specs.Outcomes.{number_of};
 
-pub const FINISHED_AT_QUOTE: u32 = 1;
+#[derive(Clone, Copy, Debug, PartialEq, Eq)]
+pub enum Outcome {
+    Finished,
+    FinishedAtQuote,
+    TooLarge,
+    NoScansLeft,
+    NoCellsLeft,
+    NoOutputLeft,
+    AppliesNothing,
+    ParameterInText,
+    FetchesNothing,
+    NotSupplied,
+    BodyInCall,
+    NotDefined,
+    QuoteInCall,
+    TextInQuotes,
+    TextInCall,
+    BuiltIn,
+    BodyBeingRead,
+    UpdateTooLong,
+    NotANumber,
+    DivisorZero,
+    ResultOutOfRange,
+    NotATable,
+    SignNotOneByte,
+    ReservedSign,
+    EmptyName,
+    NoScript,
+    NumbersTooShort,
+    Locked,
+}
 
-pub const TOO_LARGE: u32 = 2;
+impl From<Outcome> for u32 {
+    ghost from_gives = { λ outcome number. number ≡ number_of outcome };
 
-pub const NO_SCANS_LEFT: u32 = 3;
-
-pub const NO_CELLS_LEFT: u32 = 4;
-
-pub const NO_OUTPUT_LEFT: u32 = 5;
-
-pub const APPLIES_NOTHING: u32 = 10;
-
-pub const PARAMETER_IN_TEXT: u32 = 11;
-
-pub const FETCHES_NOTHING: u32 = 12;
-
-pub const NOT_SUPPLIED: u32 = 13;
-
-pub const BODY_IN_CALL: u32 = 14;
-
-pub const NOT_DEFINED: u32 = 15;
-
-pub const QUOTE_IN_CALL: u32 = 16;
-
-pub const TEXT_IN_QUOTES: u32 = 17;
-
-pub const TEXT_IN_CALL: u32 = 18;
-
-pub const BUILT_IN: u32 = 19;
-
-pub const BODY_BEING_READ: u32 = 20;
-
-pub const UPDATE_TOO_LONG: u32 = 21;
-
-pub const NOT_A_TABLE: u32 = 30;
-
-pub const SIGN_NOT_ONE_BYTE: u32 = 31;
-
-pub const RESERVED_SIGN: u32 = 32;
-
-pub const EMPTY_NAME: u32 = 33;
-
-pub const NO_SCRIPT: u32 = 34;
-
-pub const NUMBERS_TOO_SHORT: u32 = 35;
-
-pub const LOCKED: u32 = 36;
+    fn from(outcome: Outcome) -> u32 {
+        match outcome {
+            Outcome::Finished => 0,
+            Outcome::FinishedAtQuote => 1,
+            Outcome::TooLarge => 2,
+            Outcome::NoScansLeft => 3,
+            Outcome::NoCellsLeft => 4,
+            Outcome::NoOutputLeft => 5,
+            Outcome::AppliesNothing => 10,
+            Outcome::ParameterInText => 11,
+            Outcome::FetchesNothing => 12,
+            Outcome::NotSupplied => 13,
+            Outcome::BodyInCall => 14,
+            Outcome::NotDefined => 15,
+            Outcome::QuoteInCall => 16,
+            Outcome::TextInQuotes => 17,
+            Outcome::TextInCall => 18,
+            Outcome::BuiltIn => 19,
+            Outcome::BodyBeingRead => 20,
+            Outcome::UpdateTooLong => 21,
+            Outcome::NotANumber => 22,
+            Outcome::DivisorZero => 23,
+            Outcome::ResultOutOfRange => 24,
+            Outcome::NotATable => 30,
+            Outcome::SignNotOneByte => 31,
+            Outcome::ReservedSign => 32,
+            Outcome::EmptyName => 33,
+            Outcome::NoScript => 34,
+            Outcome::NumbersTooShort => 35,
+            Outcome::Locked => 36,
+        }
+    }
+}

@@ -1,61 +1,44 @@
 // What a call is refused for before its first scan: the sizes lent, then the checks of a table that takes the place of the
 // standard one.
-ghost use Rattle.std.specs.Prelude.{◌≡◌, ◌<◌, length};
-ghost use Rattle.language.specs.Refusals.{refused_by, not_a_table, has_kind, count_below, sign_not_one_byte, is_reserved, is_reserved_sign, reserved_sign, sign_refusals, lent_refusals, refusal_in};
+ghost use Rattle.std.specs.Prelude.{◌≡◌, length};
+ghost use Rattle.language.specs.Refusals.{refused_by, not_a_table, has_kind, count_below, sign_not_one_byte, is_reserved, reserved_sign, sign_refusals, lent_refusals, refusal_in};
 
-use crate::{Sizes, outcomes};
+use crate::Sizes;
+use crate::outcomes::Outcome;
 
-// What the checks of a call came to.
-#[derive(Clone, Copy)]
-pub enum Verdict {
-    Accepted,
-    Refused(u32),
+// The first refusal of a call that expands a text.
+#[tactic(auto, unfolding(crate::specs::Refusals::refused_by))]
+pub fn on_lent(sizes: Sizes, signs: &[u8]) -> Result<(), Outcome>
+    ensures { refusal_in result ≡ refused_by (lent_refusals sizes.text sizes.cells sizes.output signs.now) }
+{
+    if sizes.too_large() {
+        return Err(Outcome::TooLarge);
+    }
+    on_signs(signs)
 }
 
-impl Verdict {
-    // The first refusal of a call that expands a text.
-    pub fn on_lent(sizes: Sizes, signs: &[u8]) -> Verdict
-        ensures { refusal_in result ≡ refused_by (lent_refusals sizes.text sizes.cells sizes.output signs.now) }
-    {
-        if sizes.too_large() {
-            return Verdict::Refused(outcomes::TOO_LARGE);
-        }
-        Verdict::on_signs(signs)
+// The first of the signs.
+#[tactic(auto, unfolding(crate::specs::Refusals::refused_by), using(crate::proofs::Accepted::table_size))]
+pub fn on_signs(signs: &[u8]) -> Result<(), Outcome>
+    ensures { refusal_in result ≡ refused_by (sign_refusals signs.now) }
+{
+    if not_a_table(signs) {
+        return Err(Outcome::NotATable);
     }
-
-    // The first of the signs.
-    pub fn on_signs(signs: &[u8]) -> Verdict
-        ensures { refusal_in result ≡ refused_by (sign_refusals signs.now) }
-    {
-        if not_a_table(signs) {
-            return Verdict::Refused(outcomes::NOT_A_TABLE);
-        }
-        if sign_not_one_byte(signs) {
-            return Verdict::Refused(outcomes::SIGN_NOT_ONE_BYTE);
-        }
-        if reserved_sign(signs) {
-            return Verdict::Refused(outcomes::RESERVED_SIGN);
-        }
-        Verdict::Accepted
+    if sign_not_one_byte(signs) {
+        return Err(Outcome::SignNotOneByte);
     }
+    if reserved_sign(signs) {
+        return Err(Outcome::ReservedSign);
+    }
+    Ok(())
 }
 
 // Not 256 bytes, or an entry above 6.
-#[tactic(auto, using(crate::proofs::Accepted::above_found))]
 fn not_a_table(signs: &[u8]) -> bool
     ensures { result ≡ not_a_table signs.now }
 {
-    if signs.len() != 256 {
-        return true;
-    }
-    let mut byte = 0;
-    while byte < 256 {
-        if signs[byte] > 6 {
-            return true;
-        }
-        byte += 1;
-    }
-    false
+    signs.len() != 256 || signs.iter().any(|&kind| kind > 6)
 }
 
 // A kind from 1 to 6 with no byte or several.
@@ -63,14 +46,7 @@ fn sign_not_one_byte(signs: &[u8]) -> bool
     requires { length signs.now ≡ 256 }
     ensures { result ≡ sign_not_one_byte signs.now }
 {
-    let mut kind = 0;
-    while kind < 6 {
-        if bytes_of(signs, kind + 1) != 1 {
-            return true;
-        }
-        kind += 1;
-    }
-    false
+    (1..7).any(|kind| bytes_of(signs, kind) != 1)
 }
 
 // How many bytes have a kind.
@@ -78,15 +54,7 @@ fn bytes_of(signs: &[u8], kind: u8) -> usize
     requires { length signs.now ≡ 256 }
     ensures { result ≡ count_below 256 (has_kind signs.now kind) }
 {
-    let mut count = 0;
-    let mut byte = 0;
-    while byte < 256 {
-        if signs[byte] == kind {
-            count += 1;
-        }
-        byte += 1;
-    }
-    count
+    signs.iter().filter(|&&of| of == kind).count()
 }
 
 // A letter, a digit, `+`, `-` or `*` with a kind other than 0.
@@ -94,44 +62,15 @@ fn reserved_sign(signs: &[u8]) -> bool
     requires { length signs.now ≡ 256 }
     ensures { result ≡ reserved_sign signs.now }
 {
-    let mut byte = 0;
-    while byte < 256 {
-        if is_reserved_sign(signs, byte) {
-            return true;
-        }
-        byte += 1;
-    }
-    false
-}
-
-fn is_reserved_sign(signs: &[u8], byte: usize) -> bool
-    requires { byte < length signs.now }
-    ensures { result ≡ is_reserved_sign signs.now byte }
-{
-    if signs[byte] == 0 {
-        return false;
-    }
-    is_reserved(byte)
+    signs
+        .iter()
+        .enumerate()
+        .any(|(byte, &kind)| is_reserved(byte as u8) && kind != 0)
 }
 
 // The bytes of built-in names, of numbers and of parameters after `~`.
-fn is_reserved(byte: usize) -> bool
+fn is_reserved(byte: u8) -> bool
     ensures { result ≡ is_reserved byte }
 {
-    if 97 <= byte {
-        return byte <= 122;
-    }
-    if 65 <= byte {
-        return byte <= 90;
-    }
-    if 48 <= byte {
-        return byte <= 57;
-    }
-    if byte == 43 {
-        return true;
-    }
-    if byte == 45 {
-        return true;
-    }
-    byte == 42
+    matches!(byte, b'a'..=b'z' | b'A'..=b'Z' | b'0'..=b'9' | b'+' | b'-' | b'*')
 }

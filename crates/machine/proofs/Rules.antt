@@ -12,7 +12,9 @@ use borrow.Author.Tests.{eq-eqb, ne_eqb, eqb-true, le-ltb, lt-ltb, ltb-true}
 use Rattle.memory.proofs.Blocks.{same_bytes_in, same_true}
 use Rattle.language.specs.declared.built_ins.BuiltIn.{BuiltIn}
 use Rattle.language.specs.declared.built_ins.BuiltIn.TheVariants.{Def, Val, Update, Arithmetic, Seq, Size, If, Lock}
-use Rattle.language.specs.Signs.{Bytes, Table, ascii, Sign, plain, dollar, comma, semicolon, tilde, quote, unquote, sign_of_kind, Meaning, copied, left_out, opens, separates, applies, fetches, unquotes, outside, inside, closes_to, meaning, Language, language}
+use Rattle.language.specs.declared.signs.Sign.{Sign}
+use Rattle.language.specs.declared.signs.Sign.TheVariants.{Plain, Dollar, Comma, Semicolon, Tilde, Quote, Unquote}
+use Rattle.language.specs.Signs.{Bytes, Table, ascii, sign_of_kind, Meaning, copied, left_out, opens, separates, applies, fetches, unquotes, outside, inside, closes_to, meaning, Language, language}
 use Rattle.language.specs.Definitions.{Content, macro, built_in, Definition, Found, found, missing, newest}
 use Rattle.language.specs.Definitions as D
 use Rattle.language.specs.BuiltIns.{Deed, reads, defines, gives, alters, faulty, built_ins, needs, parameter, performed, deed_of, deed}
@@ -47,7 +49,7 @@ RuleIs k None = Unit {0}
 RuleIs k (Some w) = w.rule ≡ k
 
 -- only `~` outside of quotes fetches
-outside_fetches : (a b c d e f : Bool) → outside (cond a dollar (cond b comma (cond c semicolon (cond d tilde (cond e quote (cond f unquote plain)))))) ≡ fetches → d ≡ true
+outside_fetches : (a b c d e f : Bool) → outside (cond a Dollar (cond b Comma (cond c Semicolon (cond d Tilde (cond e Quote (cond f Unquote Plain)))))) ≡ fetches → d ≡ true
 outside_fetches true b c d e f p = let z : ◌≡◌ {A = ℕ} 0 1 = cc in absurd (omega arith)
 outside_fetches false true c d e f p = let z : ◌≡◌ {A = ℕ} 0 1 = cc in absurd (omega arith)
 outside_fetches false false true d e f p = let z : ◌≡◌ {A = ℕ} 0 1 = cc in absurd (omega arith)
@@ -61,13 +63,13 @@ closing_copied zero p = let z : ◌≡◌ {A = ℕ} 0 1 = cc in absurd (omega ar
 closing_copied (suc q) p = let z : ◌≡◌ {A = ℕ} 0 1 = cc in absurd (omega arith)
 
 inside-copied : (q : ℕ) (g : Sign) → inside q g ≡ fetches → ⊥
-inside-copied q plain p = let z : ◌≡◌ {A = ℕ} 0 1 = cc in absurd (omega arith)
-inside-copied q dollar p = let z : ◌≡◌ {A = ℕ} 0 1 = cc in absurd (omega arith)
-inside-copied q comma p = let z : ◌≡◌ {A = ℕ} 0 1 = cc in absurd (omega arith)
-inside-copied q semicolon p = let z : ◌≡◌ {A = ℕ} 0 1 = cc in absurd (omega arith)
-inside-copied q tilde p = let z : ◌≡◌ {A = ℕ} 0 1 = cc in absurd (omega arith)
-inside-copied q quote p = let z : ◌≡◌ {A = ℕ} 0 1 = cc in absurd (omega arith)
-inside-copied q unquote p = closing_copied q p
+inside-copied q Plain p = let z : ◌≡◌ {A = ℕ} 0 1 = cc in absurd (omega arith)
+inside-copied q Dollar p = let z : ◌≡◌ {A = ℕ} 0 1 = cc in absurd (omega arith)
+inside-copied q Comma p = let z : ◌≡◌ {A = ℕ} 0 1 = cc in absurd (omega arith)
+inside-copied q Semicolon p = let z : ◌≡◌ {A = ℕ} 0 1 = cc in absurd (omega arith)
+inside-copied q Tilde p = let z : ◌≡◌ {A = ℕ} 0 1 = cc in absurd (omega arith)
+inside-copied q Quote p = let z : ◌≡◌ {A = ℕ} 0 1 = cc in absurd (omega arith)
+inside-copied q Unquote p = closing_copied q p
 
 -- Names --------------------------------------------------------------------------------------------------------------
 

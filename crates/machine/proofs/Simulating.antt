@@ -9,7 +9,8 @@ use lib.Seq.{get_or-drop}
 use lib.Dec.{eqb, ltb}
 use borrow.Author.Tests.{lt-ltb, le-ltb, le-leb, lt-leb, ne_eqb, eqb-true}
 use Rattle.language.specs.Outcomes
-use Rattle.language.specs.Signs.{Bytes, Table, plain, dollar, comma, semicolon, tilde, quote, unquote, sign_of_kind, meaning, outside, inside, closes_to, language}
+use Rattle.language.specs.declared.signs.Sign.TheVariants.{Plain, Dollar, Comma, Semicolon, Tilde, Quote, Unquote}
+use Rattle.language.specs.Signs.{Bytes, Table, sign_of_kind, meaning, outside, inside, closes_to, language}
 use Rattle.language.specs.BuiltIns.{built_ins, deed}
 use Rattle.language.specs.Charge.{open_price}
 use Rattle.language.specs.Matched.{All, with}
@@ -103,7 +104,7 @@ module _ {n : ℕ} {heads whole start : List ℕ} {r : Run} {l o : List ℕ} {s 
       go : (a b c d e f : Bool)
           → Sim (cond a (M.keeping heads (M.open_call r (lent l o))) (cond b (M.keeping heads (M.separate r x (lent l o))) (cond c (M.apply r x heads (lent l o)) (cond d (M.keeping heads (M.fetch r x (lent l o)))
           (cond e (M.keeping heads (M.goes (M.with_quotes 1 r) (lent l o))) (cond f (M.keeping heads (M.unquote r x (lent l o))) (M.keeping heads (M.put r x (lent l o)))))))))
-          (S.byte L (language T) (outside (cond a dollar (cond b comma (cond c semicolon (cond d tilde (cond e quote (cond f unquote plain))))))) x s)
+          (S.byte L (language T) (outside (cond a Dollar (cond b Comma (cond c Semicolon (cond d Tilde (cond e Quote (cond f Unquote Plain))))))) x s)
       go true b c d e f = open_sim built_ins_free h
       go false true c d e f = separate_sim built_ins_free h x
       go false false true d e f = apply_sim x
@@ -128,7 +129,7 @@ module _ {n : ℕ} {heads whole start : List ℕ} {r : Run} {l o : List ℕ} {s 
       closes (suc m) = copies m
 
       other : (a b c d : Bool) → Kept (cond (eqb (suc q) 0) (M.goes (M.with_quotes 0 r) (lent l o)) (M.put (M.with_quotes (suc q) r) x (lent l o)))
-          (S.byte L (language T) (inside q (cond a dollar (cond b comma (cond c semicolon (cond d tilde plain))))) x s)
+          (S.byte L (language T) (inside q (cond a Dollar (cond b Comma (cond c Semicolon (cond d Tilde Plain))))) x s)
       other true b c d = copies q
       other false true c d = copies q
       other false false true d = copies q

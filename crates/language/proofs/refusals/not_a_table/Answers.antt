@@ -1,25 +1,15 @@
--- Below `byte` no entry is above 6.
-use mathlib.Core.Path.{sym}
-use native.Mathlib.Omega.{arith}
-use lib.ListN.{length, get_or}
-use borrow.Author.Tests.{le-ltb, eq-eqb, ne_eqb}
-use Rattle.language.proofs.Accepted.{searched_start, searched_step, searched_end}
+-- A table of 256 bytes is none where an entry is above 6.
+use Rattle.std.proofs.Common.{rules, tests, length, nat_lt, ◌≡◌, ◌∙◌, ℕ, refl, eq-eqb}
+use Rattle.std.specs.List.{list_any}
+use Rattle.std.proofs.lemmas.Iterator.{YieldsList-from_slice}
+use Rattle.std.proofs.lemmas.Iterator.Search.{any_from_yields_List}
+use Rattle.language.specs.Refusals.{is_above}
+use Rattle.language.proofs.Accepted.{some_item}
 use Rattle.language.proofs.refusals.not_a_table.Goals as goal
 
-pub returns-then-signs-ne256 : goal.returns-then-signs-ne256
-returns-then-signs-ne256 c = rw (ne_eqb (length c.args.signs.now) 256 c.if-signs-ne256.true)
-
-pub loop-byte-init : goal.loop-byte-init
-loop-byte-init c = (c.if-signs-ne256.false, searched_start)
-
-pub loop-byte-preserved : goal.loop-byte-preserved
-loop-byte-preserved c =
+pub returns-else-signs-ne256 : goal.returns-else-signs-ne256
+returns-else-signs-ne256 c =
     let s = c.args.signs.now in
-    let l = c.loop-byte in
-    (l.invariant.0, searched_step l.invariant.1 (omega arith) (le-ltb 6 (get_or s l.byte 0) (omega arith)))
-
-pub returns : goal.returns
-returns c =
-    let s = c.args.signs.now in
-    let l = c.loop-byte in
-    rw (eq-eqb (length s) 256 l.invariant.0) (sym (searched_end l.invariant.1 (omega arith)))
+    let above : ℕ → _ = λ (k : ℕ). nat_lt 6 k in
+    let e : c.any.result ≡ list_any above s = any_from_yields_List above _ _ c.any.result c.any.ensures.ran (YieldsList-from_slice s cc) (λ x b q k. search (rules, tests)) in
+    rw (eq-eqb (length s) 256 c.if-signs-ne256.false) (e ∙ some_item above s 0 (is_above s) 256 c.if-signs-ne256.false (λ k below. refl))

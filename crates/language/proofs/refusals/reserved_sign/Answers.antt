@@ -1,23 +1,22 @@
--- Below `byte` no reserved byte is a sign.
-use mathlib.Core.Path.{sym, ◌∙◌}
+-- Each byte is looked at with its kind.
+use Rattle.std.proofs.Common.{rules, tests, length, ◌<◌, zero-add, ◌≡◌, ◌∙◌, ℕ, get_or, nat_eq, ap}
+use mathlib.Core.Bool.{not, ◌&&◌}
 use native.Mathlib.Omega.{arith}
-use Rattle.language.specs.Refusals.{is_reserved_sign}
-use Rattle.language.proofs.Accepted.{some_found, searched_start, searched_step, searched_end}
+use Rattle.std.specs.List.{list_any, enumerate_from}
+use Rattle.std.proofs.lemmas.Iterator.{YieldsList-from_slice}
+use Rattle.std.proofs.lemmas.Iterator.Consumers.{YieldsList-from_enumerate}
+use Rattle.std.proofs.lemmas.Iterator.Search.{any_from_yields_List}
+use Rattle.std.proofs.lemmas.List.FromFn.{length-enumerate_from, get_or-enumerate_from}
+use Rattle.language.specs.Refusals.{is_reserved, is_reserved_sign}
+use Rattle.language.proofs.Accepted.{some_item}
 use Rattle.language.proofs.refusals.reserved_sign.Goals as goal
 
-pub loop-byte-init : goal.loop-byte-init
-loop-byte-init c = searched_start
-
-pub returns-then-is_reserved_sign : goal.returns-then-is_reserved_sign
-returns-then-is_reserved_sign c =
-    let s = c.args.signs.now in
-    let l = c.loop-byte in
-    sym (some_found 256 l.byte (is_reserved_sign s) (omega arith) (sym c.is_reserved_sign.ensures ∙ c.if-is_reserved_sign.true))
-
-pub loop-byte-preserved : goal.loop-byte-preserved
-loop-byte-preserved c =
-    let l = c.loop-byte in
-    searched_step l.invariant (omega arith) (sym c.is_reserved_sign.ensures ∙ c.if-is_reserved_sign.false)
-
 pub returns : goal.returns
-returns c = sym (searched_end c.loop-byte.invariant (omega arith))
+returns c =
+    let s = c.args.signs.now in
+    let passes : ℕ × ℕ → _ = λ (p : ℕ × ℕ). is_reserved p.0 && not (nat_eq p.1 0) in
+    let e : c.any.result ≡ list_any passes (enumerate_from 0 s) = any_from_yields_List passes _ _ c.any.result c.any.ensures.ran (YieldsList-from_enumerate (YieldsList-from_slice s cc) (cc)) (λ x b q k. search (rules, tests)) in
+    e ∙ some_item passes (enumerate_from 0 s) (0, 0) (is_reserved_sign s) 256 (length-enumerate_from 0 s ∙ c.requires) (λ k below.
+    let inside : k < length s = omega (arith, c.requires) in
+    let at : get_or (enumerate_from 0 s) k (0, 0) ≡ (k, get_or s k 0) = get_or-enumerate_from 0 s k (0, 0) inside ∙ ap (λ (i : ℕ). (i, get_or s k 0)) (zero-add k) in
+    ap passes at)

@@ -1,29 +1,16 @@
--- Each kind up to `kind` has one byte.
-use Prim.Native.Nat.{◌+◌}
-use mathlib.Core.Path.{sym, ap}
-use mathlib.Core.Bool.{not}
+-- The kinds are those from 1 on.
+use Rattle.std.proofs.Common.{rules, tests, ◌≡◌, ◌∙◌, ◌+◌, get_or, refl, ap}
 use native.Mathlib.Omega.{arith}
-use borrow.Author.Tests.{eq-eqb, ne_eqb}
-use Rattle.language.specs.Refusals.{count_below, has_kind, not_one_byte}
-use Rattle.language.proofs.Accepted.{some_found, searched_start, searched_step, searched_end}
+use Rattle.std.specs.List.{range_with_len, list_any}
+use Rattle.std.proofs.lemmas.Iterator.{YieldsList-from_range}
+use Rattle.std.proofs.lemmas.Iterator.Search.{any_from_yields_List}
+use Rattle.std.proofs.lemmas.List.FromFn.{length-range_with_len, get_or-range_with_len}
+use Rattle.language.specs.Refusals.{not_one_byte}
+use Rattle.language.proofs.Accepted.{some_item}
 use Rattle.language.proofs.refusals.sign_not_one_byte.Goals as goal
 
-pub loop-kind-init : goal.loop-kind-init
-loop-kind-init c = searched_start
-
-pub returns-then-bytes_of-ne1 : goal.returns-then-bytes_of-ne1
-returns-then-bytes_of-ne1 c =
-    let s = c.args.signs.now in
-    let l = c.loop-kind in
-    let n = count_below 256 (has_kind s (l.kind + 1)) in
-    sym (some_found 6 l.kind (λ k. not_one_byte s (k + 1)) (omega arith) (ap not (ne_eqb n 1 (rw c.bytes_of.ensures at c.if-bytes_of-ne1.true))))
-
-pub loop-kind-preserved : goal.loop-kind-preserved
-loop-kind-preserved c =
-    let s = c.args.signs.now in
-    let l = c.loop-kind in
-    let n = count_below 256 (has_kind s (l.kind + 1)) in
-    searched_step l.invariant (omega arith) (ap not (eq-eqb n 1 (rw c.bytes_of.ensures at c.if-bytes_of-ne1.false)))
-
 pub returns : goal.returns
-returns c = sym (searched_end c.loop-kind.invariant (omega arith))
+returns c =
+    let s = c.args.signs.now in
+    let e : c.any.result ≡ list_any (not_one_byte s) (range_with_len 1 6) = any_from_yields_List (not_one_byte s) _ _ c.any.result c.any.ensures.ran (YieldsList-from_range 1 7 6 refl refl) (λ x b q k. search (rules, tests)) in
+    e ∙ some_item (not_one_byte s) (range_with_len 1 6) 0 (λ k. not_one_byte s (k + 1)) 6 (length-range_with_len 1 6) (λ k below. let at : get_or (range_with_len 1 6) k 0 ≡ k + 1 = omega (arith, get_or-range_with_len 1 6 k 0 below) in ap (not_one_byte s) at)
