@@ -1,5 +1,6 @@
 -- What an applied call can do, whichever it is: a body that is read is that of a standing definition, a definition has the two
 -- parameters of DEF, the first of which is its name and not empty, and every fault is one of the text.
+use Rattle.std.specs.Prelude.{ℤ, Result, Ok, Err}
 use Prim.Native.Nat.{ℕ, ◌<◌}
 use native.Mathlib.Omega.{arith}
 use mathlib.Core.Path.{◌≡◌, refl}
@@ -11,8 +12,9 @@ use lib.Dec.{T as So, ltb}
 use lib.IntN.{ℤ}
 use borrow.Author.Tests.{ltb-true}
 use Rattle.decimal.specs.declared.operations.Operation.{Operation}
+use Rattle.decimal.specs.declared.operations.Refusal.{Refusal}
 use Rattle.decimal.specs.Operand.{operand, in_range}
-use Rattle.decimal.specs.Arithmetic.{Result, divides, is_zero, exact, of_operands}
+use Rattle.decimal.specs.Arithmetic.{divides, is_zero, exact, of_operands}
 use Rattle.language.specs.Signs.{Bytes}
 use Rattle.language.specs.Outcomes
 use Rattle.language.specs.Outcomes.{end_of_text}
@@ -58,7 +60,7 @@ module _ (busy : List ℕ) (list : List Bytes) (ds : List Definition) where
   result_does op (Some a) None = to_fail tt
   result_does op (Some a) (Some b) = either does (divides op && is_zero b) (to_fail tt) (either does (in_range (exact op a b)) to_give (to_fail tt))
     where
-      does : Result → Type 0
+      does : Result ℤ Refusal → Type 0
       does r = Does list ds (result_of r)
 
   -- LOCK

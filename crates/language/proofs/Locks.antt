@@ -1,4 +1,5 @@
 -- Document 02, Nine: a definition once locked keeps its value as long as it stands, whatever the script does.
+use Rattle.std.specs.Prelude.{ℤ, Result, Ok, Err}
 use Prim.Native.Nat.{ℕ, zero, suc, ◌≤◌, ◌<◌, ◌-◌, ◌+◌}
 use native.Mathlib.Omega.{arith}
 use mathlib.Core.Path.{◌≡◌, refl, sym, ap, subst, ◌∙◌}
@@ -8,7 +9,8 @@ use Rattle.std.specs.Prelude.{Option, None, Some}
 use lib.ListN.{length, take, length-append, take-append-drop}
 use lib.Dec.{eqb, ltb}
 use borrow.Author.Tests.{ltb-true, ltb-false, lt-ltb, le-ltb, eqb-true}
-use Rattle.decimal.specs.Arithmetic.{Result, number, refused, calculated}
+use Rattle.decimal.specs.declared.operations.Refusal.{Refusal}
+use Rattle.decimal.specs.Arithmetic.{calculated}
 use Rattle.language.specs.Signs.{Bytes, Language, Meaning, copied, left_out, opens, separates, applies, fetches, unquotes, meaning}
 use Rattle.language.specs.declared.built_ins.BuiltIn.{BuiltIn}
 use Rattle.language.specs.declared.built_ins.BuiltIn.TheVariants.{Def, Val, Update, Arithmetic, Seq, Size, If, Lock}
@@ -200,9 +202,9 @@ module _ (busy : List ℕ) (list : List Bytes) (ds : List Definition) where
       (either (FairDeed ds) (ltb x.room (length w)) tt (λ d p l. absurd (true≢false (sym l ∙ ap is_locked (newest_content n ds e p) ∙ free))))
 
   -- arithmetic
-  result_fair : (r : Result) → FairDeed ds (result_of r)
-  result_fair (number z) = tt
-  result_fair (refused n) = tt
+  result_fair : (r : Result ℤ Refusal) → FairDeed ds (result_of r)
+  result_fair (Ok z) = tt
+  result_fair (Err refusal) = tt
 
   -- LOCK
   lock_fair : (f : Found) → FairDeed ds (lock_of f)

@@ -1,5 +1,6 @@
 -- Document 01: "A text is bytes, each 8 bits." So is every string that a run holds, where the text and the definitions it
 -- starts from are.
+use Rattle.std.specs.Prelude.{ℤ, Result, Ok, Err}
 use borrow.Author.Tests.{ltb-true}
 use Prim.Native.Nat.{ℕ, zero, suc, ◌<◌, ◌+◌, ◌-◌, max}
 use native.Mathlib.Omega.{arith}
@@ -11,7 +12,8 @@ use Rattle.std.specs.Prelude.{Option, None, Some}
 use lib.ListN.{length, drop, get_or}
 use lib.Dec.{ltb, eqb}
 use lib.IntN.{pos}
-use Rattle.decimal.specs.Arithmetic.{Result, number, refused, calculated}
+use Rattle.decimal.specs.declared.operations.Refusal.{Refusal}
+use Rattle.decimal.specs.Arithmetic.{calculated}
 use Rattle.decimal.proofs.Bytes.{Each, OfDecimal}
 use Rattle.decimal.proofs.Laws.{shortest_bytes}
 use Rattle.language.specs.Signs.{Bytes, Language, Meaning, copied, left_out, opens, separates, applies, fetches, unquotes, meaning}
@@ -128,9 +130,9 @@ lock_octets (found k (macro x)) = tt
 lock_octets (found k (built_in b)) = tt
 
 -- arithmetic
-result_octets : (r : Result) → DeedOctets (result_of r)
-result_octets (number z) = decimal_octets _ (shortest_bytes z)
-result_octets (refused outcome) = tt
+result_octets : (r : Result ℤ Refusal) → DeedOctets (result_of r)
+result_octets (Ok z) = decimal_octets _ (shortest_bytes z)
+result_octets (Err refusal) = tt
 
 module _ (ks : List ℕ) {list : List Bytes} (P : All Octets list) {ds : List Definition} (D : All DefinitionOctets ds) where
   -- each built-in

@@ -1,5 +1,6 @@
 -- Document 01, Quotes: "Every collected string so has matched quotes: a body never shows an unquoted `>` and never ends
 -- inside quotes, which is to be shown."
+use Rattle.std.specs.Prelude.{ℤ, Result, Ok, Err}
 use Prim.Native.Nat.{ℕ, zero, suc, pred, ◌<◌, ◌+◌, ◌-◌, ◌/◌, ◌%◌}
 use native.Mathlib.Omega.{arith}
 use native.Mathlib.Nat.{mod-lt}
@@ -13,8 +14,9 @@ use lib.Dec.{leb, ltb, eqb}
 use lib.IntN.{ℤ, pos, negsuc}
 use borrow.Author.Tests.{ltb-true, leb-true}
 use Rattle.decimal.specs.declared.operations.Operation.{Operation}
+use Rattle.decimal.specs.declared.operations.Refusal.{Refusal}
 use Rattle.decimal.specs.Operand.{operand, in_range}
-use Rattle.decimal.specs.Arithmetic.{Result, divides, is_zero, exact, of_operands}
+use Rattle.decimal.specs.Arithmetic.{divides, is_zero, exact, of_operands}
 use Rattle.decimal.specs.Shortest.{digits_of, shortest}
 use Rattle.language.specs.declared.signs.Sign.{Sign}
 use Rattle.language.specs.declared.signs.Sign.TheVariants.{Plain, Dollar, Comma, Semicolon, Tilde, Quote, Unquote}
@@ -240,7 +242,7 @@ module _ (T : Table) where
     result_matches op (Some a) (Some b) =
         either given (divides op && is_zero b) refl (either given (in_range (exact op a b)) (shortest-matched (exact op a b)) refl)
       where
-        given : Result → Type 0
+        given : Result ℤ Refusal → Type 0
         given r = DeedMatches (result_of r)
 
     module _ (ks : List ℕ) (list : List Bytes) (ds : List Definition) (P : All (Matched T) list) (D : All (ValueMatches T) ds) where

@@ -1,8 +1,10 @@
 -- Document 01: the built-ins, what each needs, its checks in their order and its result. Document 02, Four: three more; Five: a
 -- check of DEF; Nine: LOCK.
-use Rattle.std.specs.Prelude.{ℕ, cond, List, [], ◌∷◌, length, drop, get_or, ltb}
+use Rattle.std.specs.Prelude.{ℕ, cond, List, [], ◌∷◌, length, drop, get_or, ltb, ℤ, Result, Ok, Err}
 use Rattle.decimal.specs.declared.operations.Operation.TheVariants.{Sum, Difference, Product, Quotient, Remainder}
-use Rattle.decimal.specs.Arithmetic.{Result, number, refused, calculated}
+use Rattle.decimal.specs.declared.operations.Refusal.{Refusal}
+use Rattle.decimal.specs.Refusals.{number_of}
+use Rattle.decimal.specs.Arithmetic.{calculated}
 use Rattle.decimal.specs.Shortest.{digits, shortest}
 use Rattle.language.specs.Signs.{Bytes, ascii}
 use Rattle.language.specs.Outcomes
@@ -76,9 +78,9 @@ update_of reading w (found k (macro x)) =
     cond x.locked (faulty Outcomes.locked)
     (cond (among k reading) (faulty Outcomes.body_being_read) (cond (ltb x.room (length w)) (faulty Outcomes.update_too_long) (alters k (updates w))))
 
-abbrev pub result_of : Result → Deed
-result_of (number z) = gives (shortest z)
-result_of (refused outcome) = faulty outcome
+abbrev pub result_of : Result ℤ Refusal → Deed
+result_of (Ok z) = gives (shortest z)
+result_of (Err refusal) = faulty (number_of refusal)
 
 -- Document 02: "`SEQ` gives 1 if its two parameters are the same bytes, else 0."
 abbrev pub compared : Bytes → Bytes → Bytes

@@ -1,6 +1,8 @@
 -- Document 01, What a run reports: each number of the table, by name; and those of document 02.
 use Rattle.std.specs.Prelude.{ℕ, Bool, ◌&&◌, ◌||◌, eqb, leb}
-use Rattle.decimal.specs.Arithmetic.{not_a_number, divisor_zero, result_out_of_range}
+use Rattle.decimal.specs.Refusals.{not_a_number, divisor_zero, result_out_of_range}
+use Rattle.decimal.specs.declared.operations.Refusal.{Refusal}
+use Rattle.decimal.specs.declared.operations.Refusal.TheVariants as Arithmetical
 use Rattle.language.specs.declared.outcomes.Outcome.{Outcome}
 use Rattle.language.specs.declared.outcomes.Outcome.TheVariants.{Finished, FinishedAtQuote, TooLarge, NoScansLeft, NoCellsLeft, NoOutputLeft, AppliesNothing, ParameterInText, FetchesNothing, NotSupplied, BodyInCall, NotDefined, QuoteInCall, TextInQuotes, TextInCall, BuiltIn, BodyBeingRead, UpdateTooLong, NotANumber, DivisorZero, ResultOutOfRange, NotATable, SignNotOneByte, ReservedSign, EmptyName, NoScript, NumbersTooShort, Locked}
 
@@ -116,6 +118,12 @@ number_of EmptyName = empty_name
 number_of NoScript = no_script
 number_of NumbersTooShort = numbers_too_short
 number_of Locked = locked
+
+-- the refusals of the arithmetic are outcomes of a run
+abbrev pub outcome_of : Refusal → Outcome
+outcome_of Arithmetical.NotANumber = NotANumber
+outcome_of Arithmetical.DivisorZero = DivisorZero
+outcome_of Arithmetical.ResultOutOfRange = ResultOutOfRange
 
 -- "A run finishes with 0 or 1"
 abbrev pub finishes : ℕ → Bool

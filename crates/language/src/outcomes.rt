@@ -1,6 +1,8 @@
 // The outcomes of documents 01 and 02, by name, and the number of each, which a report gives. 22 to 24 are the arithmetic's.
 ghost use Rattle.std.specs.Prelude.{◌≡◌};
-ghost use Rattle.language.specs.Outcomes.{number_of};
+ghost use Rattle.language.specs.Outcomes.{number_of, outcome_of};
+
+use decimal::operations::Refusal;
 
 #[derive(Clone, Copy, Debug, PartialEq, Eq)]
 pub enum Outcome {
@@ -67,6 +69,18 @@ impl From<Outcome> for u32 {
             Outcome::NoScript => 34,
             Outcome::NumbersTooShort => 35,
             Outcome::Locked => 36,
+        }
+    }
+}
+
+impl From<Refusal> for Outcome {
+    ghost from_gives = { λ refusal outcome. outcome ≡ outcome_of refusal };
+
+    fn from(refusal: Refusal) -> Outcome {
+        match refusal {
+            Refusal::NotANumber => Outcome::NotANumber,
+            Refusal::DivisorZero => Outcome::DivisorZero,
+            Refusal::ResultOutOfRange => Outcome::ResultOutOfRange,
         }
     }
 }
