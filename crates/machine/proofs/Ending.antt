@@ -33,6 +33,7 @@ use Rattle.machine.specs.Frames.{Places, Frame, reads, address, applying, list_i
 use Rattle.machine.specs.Index.{newest_in, Linked, Index}
 use Rattle.machine.specs.Held.{Represents, places_of}
 use Rattle.machine.proofs.Lists.{packed-low, packed-high}
+use Rattle.language.specs.declared.outcomes.Outcome.TheVariants.{BodyInCall}
 
 -- a list has a name at least
 list_at_least : (list : List Bytes) → 0 < length list → 5 ≤ list_price list
@@ -400,7 +401,7 @@ pub end_body_sim : {n : ℕ} {older : List Definition} {heads whole start : List
 end_body_sim {n} {older} {heads} {whole} {start} {r} {l} {o} {s} free h B Bs e = go (S.own_call s) refl
   where
     go : (t : Bool) → S.own_call s ≡ t → SimulatesIndexed n older whole start (M.end_body r heads (lent l o)) (S.body_end (limits_of n (length start)) t B Bs s)
-    go true q = rw (own_is h ∙ q) (refusal free h Outcomes.body_in_call)
+    go true q = rw (own_is h ∙ q) (refusal free h BodyInCall)
     go false q =
         let b = length older in
         let below : length s.calls ≤ calls_below s.bodies = ltb-false (calls_below s.bodies) (length s.calls) q in

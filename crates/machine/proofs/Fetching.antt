@@ -34,6 +34,7 @@ use Rattle.machine.proofs.Counting.{advanced}
 use Rattle.machine.specs.Items.{encode, encode_arguments}
 use Rattle.machine.specs.Frames.{Places, items, places}
 use Rattle.machine.specs.Held.{Represents}
+use Rattle.language.specs.declared.outcomes.Outcome.TheVariants.{FetchesNothing, NotSupplied}
 
 -- a block of bytes is the same in the low bits of the cells
 pub block-low : (from : ℕ) (bs l : List ℕ) → block from (length bs) l ≡ bs → Octets bs → block from (length bs) (low_bytes l) ≡ bs
@@ -148,7 +149,7 @@ module _ {n : ℕ} {older : List Definition} {heads whole start : List ℕ} {r :
           (copy_block free h' (p + 1) bs (omega (arith, a.within, listed.within, list_eq)) a.bytes (block-low (p + 1) bs l a.bytes (each k B.list oct)))
       go false z =
           let p : argument l (r.source.list + arguments_from) k ≡ nowhere = argument_past l (r.source.list + arguments_from) B.list more k c priced (ltb-false k (length B.list) z) in
-          rw p (refusal free h Outcomes.not_supplied)
+          rw p (refusal free h NotSupplied)
 
   -- `~` in a body
   pub fetch_body_sim : (T : Table) → Octets B.rest → All Octets B.list
@@ -157,11 +158,11 @@ module _ {n : ℕ} {older : List Definition} {heads whole start : List ℕ} {r :
     where
       by_number : (x : ℕ) (rest : Bytes) → B.rest ≡ x ∷ rest → (k : ℕ) (j : Option ℕ) → Numbered k j
           → Simulates n older heads whole start (M.fetch_number r k (lent l o)) (S.fetch_number (limits_of n (length start)) j B.list (S.with_bodies (S.with_rest rest B ∷ Bs) s))
-      by_number x rest q k j no = refusal free h Outcomes.fetches_nothing
+      by_number x rest q k j no = refusal free h FetchesNothing
       by_number x rest q k j (number m) = rw (ne_eqb k nowhere (λ (y : k ≡ nowhere). absurd (omega arith))) (fetch_number_sim x rest q oct k m)
 
       go : (bs : Bytes) → B.rest ≡ bs → Octets bs → Simulates n older heads whole start (M.fetch_in_body r (lent l o)) (S.fetch_in_body (limits_of n (length start)) (language T) bs B Bs s)
-      go [] q oc = rw (body_over h B Bs e q) (refusal free h Outcomes.fetches_nothing)
+      go [] q oc = rw (body_over h B Bs e q) (refusal free h FetchesNothing)
       go (x ∷ rest) q (with small oc) =
           rw (body_next h B Bs e x rest q small, ne_eqb x nowhere (λ (y : x ≡ nowhere). absurd (omega arith)))
           (by_number x rest q (M.parameter_number x) (parameter_number x) (numbered x))

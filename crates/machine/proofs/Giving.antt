@@ -33,6 +33,7 @@ use Rattle.machine.specs.Frames.{Places, address, items, places, calls}
 use Rattle.machine.specs.Index.{Index}
 use Rattle.machine.specs.Held.{Shows, Represents}
 use Rattle.machine.proofs.Lists.{overwrite}
+use Rattle.language.specs.declared.outcomes.Outcome.TheVariants.{NoCellsLeft, NoOutputLeft}
 
 abbrev pub mostly : ℕ → State → State
 mostly m s =
@@ -193,7 +194,7 @@ module _ {n : ℕ} {older : List Definition} {heads whole start : List ℕ} {r :
           rw (test ∙ ap not e, test₂, released) (goes refl (rep q))
       go false e =
           let test₂ : leb (S.charge s + (1 + length bs)) n ≡ false = ap (λ (k : ℕ). leb k n) charge_eq ∙ e in
-          rw (test ∙ ap not e, test₂) (refused Outcomes.no_cells_left)
+          rw (test ∙ ap not e, test₂) (refused NoCellsLeft)
 
   -- a result that goes to the output
   given_out : (bs : Bytes) (O : List ℕ) → calls n b a.under ≡ [] → (length s.standing.output + length bs ≤ length start → O ≡ placed r.counts.written bs o)
@@ -228,7 +229,7 @@ module _ {n : ℕ} {older : List Definition} {heads whole start : List ℕ} {r :
           rw (test ∙ ap not e, released)
           (goes refl (subst (λ (k : List ℕ). Represents n older ix whole start (M.wrote (length bs) (M.released r 0 (address n U) links (count a.since))) (lent l k)
           (S.with_output (s.standing.output ++ bs) (S.with_calls [] (S.with_definitions (oldest (b + count U) s.standing.definitions) s)))) outEq h))
-      go false e = rw (test ∙ ap not e) (refused Outcomes.no_output_left)
+      go false e = rw (test ∙ ap not e) (refused NoOutputLeft)
 
   -- by whether a call stands around
   pub give_sim : (bs : Bytes) (X O : List ℕ) → (r.charge + length bs ≤ n → X ≡ placed r.calls.call bs l)

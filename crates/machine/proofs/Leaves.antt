@@ -27,6 +27,7 @@ use Rattle.machine.specs.declared.run.Stepped.{Stepped}
 use Rattle.machine.specs.Walks.{nowhere, head_size, name_length, value_length, name_group, group_link, is_named, newest_from, newest, argument, is_locked, room, right_before, list_link, return_link, high, list_overhead, definitions, is_read, chosen, built_in_named, compare, calculate}
 use Rattle.machine.specs.Machine.{After, Indexed, keeping, unindexed, Resulting, goes, ends, damaged, goes_on, placing, released, release_to, release, define_in, def, leaves, own_call, end_body_to, end_body, charged, wrote, is_outer, give, give_block, refuse_named, refuse_name, val, update, choose, lock, give_answer, give_count, perform}
 use Rattle.machine.specs.contracts.run.Answer.{the_type}
+use Rattle.language.specs.declared.outcomes.Outcome.TheVariants.{EmptyName}
 
 -- an answer of another kind does not go on
 pub ended : (a : Answer) → Among (1 ∷ 2 ∷ 3 ∷ []) (tag_of the_type a) → goes_on a ≡ false
@@ -46,7 +47,7 @@ not_on a h e = true≢false (ap goes_on (sym e) ∙ ended a h)
 
 -- DEF turns an empty name away
 pub nameless : (r : Run) (name value : ℕ) (h : List ℕ) (m : Lent) {a : After} {letters : ℕ} → letters ≡ get_or m.cells name 0 → letters ≡ 0
-    → a ≡ ends Outcomes.empty_name r m → keeping h a ≡ def r name value h m
+    → a ≡ ends EmptyName r m → keeping h a ≡ def r name value h m
 nameless r name value h m n z d = ap (keeping h) d ∙ rw (← n, z)
 
 -- does not go on from what ended

@@ -31,6 +31,7 @@ use Rattle.machine.specs.Items.{Item, defined, width, encode, encode_arguments, 
 use Rattle.machine.specs.Frames.{Places, Frame, made, collects, reads, address, opening, list_item, laid, items, places, lefts, calls, bodies, Valid}
 use Rattle.machine.specs.Held.{Represents, places_of}
 use Rattle.machine.proofs.Lists.{cell_is, set-placed}
+use Rattle.language.specs.declared.outcomes.Outcome.TheVariants.{Finished, FinishedAtQuote, ParameterInText, QuoteInCall, TextInCall, TextInQuotes}
 
 -- three cells set, and the one behind them as it was
 three_set : (l : List ℕ) (i x y z : ℕ) → i + 4 ≤ length l
@@ -332,7 +333,7 @@ module _ {n : ℕ} {older : List Definition} {heads whole start : List ℕ} {r :
 
   -- `~` in the text
   pub fetch_text_sim : (x : ℕ) → Simulates n older heads whole start (M.fetch_in_text r x (lent l o)) (S.fetch_in_text (limits_of n (length start)) s.calls x s)
-  fetch_text_sim x = by_calls x (M.ends Outcomes.parameter_in_text r (lent l o)) (λ cs. S.fetch_in_text (limits_of n (length start)) cs x s) refl λ c cs e p. refusal free h Outcomes.parameter_in_text
+  fetch_text_sim x = by_calls x (M.ends ParameterInText r (lent l o)) (λ cs. S.fetch_in_text (limits_of n (length start)) cs x s) refl λ c cs e p. refusal free h ParameterInText
 
   -- By whether a body is being read.
   pub by_bodies_in : {A : Type 0} (P : A → Step → Type 0) (a c : A) (f : List Body → Step) → (s.bodies ≡ [] → P a (f []))
@@ -378,8 +379,8 @@ module _ {n : ℕ} {older : List Definition} {heads whole start : List ℕ} {r :
   -- an unquoted `>`
   pub unquote_sim : (x : ℕ) → Simulates n older heads whole start (M.unquote r x (lent l o)) (S.unquote (limits_of n (length start)) s.bodies s.calls x s)
   unquote_sim x =
-      by_bodies (cond (eqb r.calls.call nowhere) (M.ends Outcomes.finished_at_quote r (lent l o)) (M.ends Outcomes.quote_in_call r (lent l o))) (M.put r x (lent l o)) (λ Bs. S.unquote (limits_of n (length start)) Bs s.calls x s)
-      (λ e. by_call (M.ends Outcomes.finished_at_quote r (lent l o)) (M.ends Outcomes.quote_in_call r (lent l o)) (λ ks. S.unquote (limits_of n (length start)) [] ks x s) (refusal free h Outcomes.finished_at_quote) (λ k ks. refusal free h Outcomes.quote_in_call))
+      by_bodies (cond (eqb r.calls.call nowhere) (M.ends FinishedAtQuote r (lent l o)) (M.ends QuoteInCall r (lent l o))) (M.put r x (lent l o)) (λ Bs. S.unquote (limits_of n (length start)) Bs s.calls x s)
+      (λ e. by_call (M.ends FinishedAtQuote r (lent l o)) (M.ends QuoteInCall r (lent l o)) (λ ks. S.unquote (limits_of n (length start)) [] ks x s) (refusal free h FinishedAtQuote) (λ k ks. refusal free h QuoteInCall))
       (λ B Bs e. put_byte free h x)
 
   -- the end of the text
@@ -389,7 +390,7 @@ module _ {n : ℕ} {older : List Definition} {heads whole start : List ℕ} {r :
       go : (q : ℕ) → s.quotes ≡ q → Simulates n older heads whole start (M.end_text r (lent l o)) (S.text_end (limits_of n (length start)) q s.calls s)
       go zero e =
           let t : ltb 0 r.quotes ≡ false = le-ltb 0 r.quotes (omega (arith, h.quotes)) in
-          rw t (by_call (M.ends Outcomes.finished r (lent l o)) (M.ends Outcomes.text_in_call r (lent l o)) (λ ks. S.text_end (limits_of n (length start)) zero ks s) (refusal free h Outcomes.finished) (λ k ks. refusal free h Outcomes.text_in_call))
+          rw t (by_call (M.ends Finished r (lent l o)) (M.ends TextInCall r (lent l o)) (λ ks. S.text_end (limits_of n (length start)) zero ks s) (refusal free h Finished) (λ k ks. refusal free h TextInCall))
       go (suc q) e =
           let t : ltb 0 r.quotes ≡ true = lt-ltb 0 r.quotes (omega (arith, h.quotes)) in
-          rw t (refusal free h Outcomes.text_in_quotes)
+          rw t (refusal free h TextInQuotes)

@@ -50,6 +50,7 @@ use Rattle.machine.proofs.Defining.{def_sim}
 use Rattle.machine.specs.Items.{Item, defined, macro_of, width, encode, definitions_of, count}
 use Rattle.machine.specs.Index.{Index}
 use Rattle.machine.specs.Frames.{Places, Frame, address, At, items, places, calls, bodies, Valid}
+use Rattle.language.specs.declared.outcomes.Outcome.TheVariants.{BodyBeingRead, BuiltIn, EmptyName, Locked, NotDefined, NotSupplied, UpdateTooLong}
 
 -- a value that is found is of bytes
 value_octets : (t : Bytes) (ds : List Definition) (k : ℕ) (m : D.Macro) → All DefinitionOctets ds → D.newest t ds ≡ found k (macro m) → Octets m.value
@@ -207,7 +208,7 @@ module _ {n : ℕ} {heads whole start : List ℕ} {r : Run} {l o : List ℕ} {s 
       go : (t : Bytes) → parameter 1 list ≡ t
           → Sim (M.def r (argument l name 1) (argument l name 2) heads (lent l o))
           (S.perform (limits_of n (length start)) (definition_by t (parameter 2 list)) c cs s)
-      go [] e = rw ((text_is 1 (omega arith)).counted ∙ ap length e) (refusing built_ins_free a Outcomes.empty_name)
+      go [] e = rw ((text_is 1 (omega arith)).counted ∙ ap length e) (refusing built_ins_free a EmptyName)
       go (x ∷ t) e =
           subst (λ (u : Bytes). Sim (M.def r (argument l name 1) (argument l name 2) heads (lent l o)) (S.perform (limits_of n (length start)) (defines u (parameter 2 list)) c cs s))
           e (def_sim a long (omega (arith, ap length e)))
@@ -218,8 +219,8 @@ module _ {n : ℕ} {heads whole start : List ℕ} {r : Run} {l o : List ℕ} {s 
   refuse_sim : (q : ℕ) (t : Bytes) → TextAt l q t → (F : Found) → Own F → D.newest t built_ins ≡ F
       → (f : Found → Deed) → f missing ≡ faulty Outcomes.not_defined → ((k : ℕ) (bi : BuiltIn) → f (found k (built_in bi)) ≡ faulty Outcomes.built_in)
       → Ended (M.refuse_name r q (lent l o)) (S.perform (limits_of n (length start)) (f F) c cs s)
-  refuse_sim q t x F unknown e f m k = rw (built_in_named_is x ∙ ap named_of e, m) (refusing built_ins_free a Outcomes.not_defined)
-  refuse_sim q t x F (known j bi) e f m k = rw (built_in_named_is x ∙ ap named_of e, k j bi) (refusing built_ins_free a Outcomes.built_in)
+  refuse_sim q t x F unknown e f m k = rw (built_in_named_is x ∙ ap named_of e, m) (refusing built_ins_free a NotDefined)
+  refuse_sim q t x F (known j bi) e f m k = rw (built_in_named_is x ∙ ap named_of e, k j bi) (refusing built_ins_free a BuiltIn)
 
   -- a name that is given is looked up: "15, 19", or what is done with the definition that is found
   given_sim : (long : 1 < length list) (f : Found → Deed) → f missing ≡ faulty Outcomes.not_defined
@@ -380,22 +381,22 @@ module _ {n : ℕ} {heads whole start : List ℕ} {r : Run} {l o : List ℕ} {s 
       fits : (z : Bool) → ltb m.room (length w) ≡ z → among k busy ≡ false
           → Ended (M.update_in r (argument l name 2) d (lent l o))
           (S.perform (limits_of n (length start)) (cond z (faulty Outcomes.update_too_long) (alters k (updates w))) c cs s)
-      fits true e h = rw (test ∙ e) (refusing built_ins_free a Outcomes.update_too_long)
+      fits true e h = rw (test ∙ e) (refusing built_ins_free a UpdateTooLong)
       fits false e h = rw (test ∙ e) (store_sim d k m (parameter 1 list) w (argument l name 2) at y (ltb-false m.room (length w) e) h)
 
       quiet : (z : Bool) → among k busy ≡ z
-          → Ended (cond z (M.ends Outcomes.body_being_read r (lent l o)) (M.update_in r (argument l name 2) d (lent l o)))
+          → Ended (cond z (M.ends BodyBeingRead r (lent l o)) (M.update_in r (argument l name 2) d (lent l o)))
           (S.perform (limits_of n (length start)) (cond z (faulty Outcomes.body_being_read) (cond (ltb m.room (length w)) (faulty Outcomes.update_too_long) (alters k (updates w)))) c cs s)
-      quiet true e = refusing built_ins_free a Outcomes.body_being_read
+      quiet true e = refusing built_ins_free a BodyBeingRead
       quiet false e = fits (ltb m.room (length w)) refl e
 
       unlocked : (z : Bool)
           → Ended
-          (cond z (M.ends Outcomes.locked r (lent l o)) (cond (among k busy) (M.ends Outcomes.body_being_read r (lent l o)) (M.update_in r (argument l name 2) d (lent l o))))
+          (cond z (M.ends Locked r (lent l o)) (cond (among k busy) (M.ends BodyBeingRead r (lent l o)) (M.update_in r (argument l name 2) d (lent l o))))
           (S.perform (limits_of n (length start))
           (cond z (faulty Outcomes.locked)
           (cond (among k busy) (faulty Outcomes.body_being_read) (cond (ltb m.room (length w)) (faulty Outcomes.update_too_long) (alters k (updates w))))) c cs s)
-      unlocked true = refusing built_ins_free a Outcomes.locked
+      unlocked true = refusing built_ins_free a Locked
       unlocked false = quiet (among k busy) refl
 
   update_sim : (long : 2 < length list)
@@ -488,13 +489,13 @@ module _ {n : ℕ} {heads whole start : List ℕ} {r : Run} {l o : List ℕ} {s 
           → Sim (M.supplied r bi name heads (lent l o))
           (S.perform (limits_of n (length start)) (cond z (performed (S.reading s.bodies) list s.standing.definitions bi) (faulty Outcomes.not_supplied)) c cs s)
       go true q = let long = ltb-true (needs bi) (length list) q in rw (there (needs bi) long) (perform_sim bi long)
-      go false q = rw (argument_not (needs bi) (ltb-false (needs bi) (length list) q)) (refusing built_ins_free a Outcomes.not_supplied)
+      go false q = rw (argument_not (needs bi) (ltb-false (needs bi) (length list) q)) (refusing built_ins_free a NotSupplied)
 
   -- The applied call -------------------------------------------------------------------------------------------------
 
   own_sim : (F : Found) → Own F → D.newest (parameter 0 list) built_ins ≡ F
       → Sim (M.apply_built_in r name heads (lent l o)) (S.perform (limits_of n (length start)) (deed_of (S.reading s.bodies) list s.standing.definitions F) c cs s)
-  own_sim F unknown e = rw (built_in_named_is name_text ∙ ap named_of e) (refusing built_ins_free a Outcomes.not_defined)
+  own_sim F unknown e = rw (built_in_named_is name_text ∙ ap named_of e) (refusing built_ins_free a NotDefined)
   own_sim F (known j bi) e = rw (built_in_named_is name_text ∙ ap named_of e) (supplied_sim bi)
 
   pub marked_sim : Sim (M.apply_marked r heads (lent l o)) (S.perform (limits_of n (length start)) (deed (S.reading s.bodies) list s.standing.definitions) c cs s)

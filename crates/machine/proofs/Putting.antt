@@ -28,6 +28,7 @@ use Rattle.machine.proofs.Showing.{state_shown}
 use Rattle.machine.specs.Frames.{Places, Frame, made, collects, reads, laid, places, calls}
 use Rattle.machine.specs.Held.{Represents}
 use Rattle.machine.proofs.Lists.{set-placed, overwrite}
+use Rattle.language.specs.declared.outcomes.Outcome.TheVariants.{NoCellsLeft, NoOutputLeft}
 
 -- Tests that agree ---------------------------------------------------------------------------------------------------
 
@@ -167,10 +168,10 @@ module _ {n : ℕ} {older : List Definition} {heads whole start : List ℕ} {r :
 
   -- where the limit of cells enters a scan: the machine's test, in either form, is the scanning's
   pub charging : (k : ℕ) {a : After} {t : Step} → (r.charge + k ≤ n → Simulates n older heads whole start a t)
-      → Simulates n older heads whole start (cond (ltb (length l - r.charge) k) (M.ends Outcomes.no_cells_left r (lent l o)) a) (cond (leb (S.charge s + k) n) t (S.ends Outcomes.no_cells_left s))
+      → Simulates n older heads whole start (cond (ltb (length l - r.charge) k) (M.ends NoCellsLeft r (lent l o)) a) (cond (leb (S.charge s + k) n) t (S.ends Outcomes.no_cells_left s))
   charging k {a} {t} go =
       let e : ltb (length l - r.charge) k ≡ not (leb (r.charge + k) n) = rw h.lies.stands.size (room_test n r.charge k charge_below) in
-      rw (e, charge_is free h) (pick_in (Simulates n older heads whole start) (leb (r.charge + k) n) (λ q. go (leb-true (r.charge + k) n q)) (refusal Outcomes.no_cells_left))
+      rw (e, charge_is free h) (pick_in (Simulates n older heads whole start) (leb (r.charge + k) n) (λ q. go (leb-true (r.charge + k) n q)) (refusal NoCellsLeft))
 
   pub charging_one_in : {A : Type 0} (P : A → Step → Type 0) {a c : A} {t : Step} → P c (S.ends Outcomes.no_cells_left s) → (r.charge + 1 ≤ n → P a t)
       → P (cond (leb (length l) r.charge) c a) (cond (leb (S.charge s + 1) n) t (S.ends Outcomes.no_cells_left s))
@@ -179,26 +180,26 @@ module _ {n : ℕ} {older : List Definition} {heads whole start : List ℕ} {r :
       rw (e, charge_is free h) (pick_in P (leb (r.charge + 1) n) (λ q. go (leb-true (r.charge + 1) n q)) refused)
 
   pub charging_one : {a : After} {t : Step} → (r.charge + 1 ≤ n → Simulates n older heads whole start a t)
-      → Simulates n older heads whole start (cond (leb (length l) r.charge) (M.ends Outcomes.no_cells_left r (lent l o)) a) (cond (leb (S.charge s + 1) n) t (S.ends Outcomes.no_cells_left s))
-  charging_one go = charging_one_in (Simulates n older heads whole start) (refusal Outcomes.no_cells_left) go
+      → Simulates n older heads whole start (cond (leb (length l) r.charge) (M.ends NoCellsLeft r (lent l o)) a) (cond (leb (S.charge s + 1) n) t (S.ends Outcomes.no_cells_left s))
+  charging_one go = charging_one_in (Simulates n older heads whole start) (refusal NoCellsLeft) go
 
   -- and where that of the output does
   pub writing : (k : ℕ) {a : After} {t : Step} → (length s.standing.output + k ≤ length start → Simulates n older heads whole start a t)
-      → Simulates n older heads whole start (cond (ltb (length o - r.counts.written) k) (M.ends Outcomes.no_output_left r (lent l o)) a)
+      → Simulates n older heads whole start (cond (ltb (length o - r.counts.written) k) (M.ends NoOutputLeft r (lent l o)) a)
       (cond (leb (length s.standing.output + k) (length start)) t (S.ends Outcomes.no_output_left s))
   writing k {a} {t} go =
       let w = length s.standing.output in
       let e : ltb (length o - r.counts.written) k ≡ not (leb (w + k) (length start)) =
       rw (output_size h.lies, h.lies.wrote.written) (room_test (length start) w k h.lies.wrote.enough) in
-      rw e (pick_in (Simulates n older heads whole start) (leb (w + k) (length start)) (λ q. go (leb-true (w + k) (length start) q)) (refusal Outcomes.no_output_left))
+      rw e (pick_in (Simulates n older heads whole start) (leb (w + k) (length start)) (λ q. go (leb-true (w + k) (length start) q)) (refusal NoOutputLeft))
 
   pub writing_one : {a : After} {t : Step} → (length s.standing.output + 1 ≤ length start → Simulates n older heads whole start a t)
-      → Simulates n older heads whole start (cond (leb (length o) r.counts.written) (M.ends Outcomes.no_output_left r (lent l o)) a)
+      → Simulates n older heads whole start (cond (leb (length o) r.counts.written) (M.ends NoOutputLeft r (lent l o)) a)
       (cond (leb (length s.standing.output + 1) (length start)) t (S.ends Outcomes.no_output_left s))
   writing_one {a} {t} go =
       let w = length s.standing.output in
       let e : leb (length o) r.counts.written ≡ not (leb (w + 1) (length start)) = rw (output_size h.lies, h.lies.wrote.written) (one_test (length start) w) in
-      rw e (pick_in (Simulates n older heads whole start) (leb (w + 1) (length start)) (λ q. go (leb-true (w + 1) (length start) q)) (refusal Outcomes.no_output_left))
+      rw e (pick_in (Simulates n older heads whole start) (leb (w + 1) (length start)) (λ q. go (leb-true (w + 1) (length start) q)) (refusal NoOutputLeft))
 
 -- the innermost call has a head of four cells
 pub call_before : (n b : ℕ) (fs : List Frame) → Collects n b fs → (places n b fs).call + open_price ≤ (places n b fs).left

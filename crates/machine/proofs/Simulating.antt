@@ -35,6 +35,7 @@ use Rattle.machine.proofs.Performing.{marked_sim}
 use Rattle.machine.specs.Items.{count}
 use Rattle.machine.specs.Frames.{items, calls}
 use Rattle.machine.specs.Held.{Represents}
+use Rattle.language.specs.declared.outcomes.Outcome.TheVariants.{AppliesNothing, NoCellsLeft}
 
 -- a state with other counts holds the same strings
 noted : {s : State} (m : ℕ) → HoldsOctets s → HoldsOctets (S.noting m s)
@@ -73,7 +74,7 @@ module _ {n : ℕ} {heads whole start : List ℕ} {r : Run} {l o : List ℕ} {s 
           let q : S.own_call s ≡ false = ap (λ (ks : List Call). ltb (S.calls_below s.bodies) (length ks)) e ∙ le-ltb (S.calls_below s.bodies) 0 zero-le in
           let z : ◌≡◌ {A = Bool} true false = sym own ∙ q in
           absurd (let y : ◌≡◌ {A = ℕ} 0 1 = cc in omega arith)
-      innermost own (k ∷ ks) e = charging_one_in built_ins_free h Sim (refusal built_ins_free h Outcomes.no_cells_left) (λ q.
+      innermost own (k ∷ ks) e = charging_one_in built_ins_free h Sim (refusal built_ins_free h NoCellsLeft) (λ q.
           let a = applied_of built_ins_free h own q in
           let p : k ∷ ks ≡ record { ended = a.ended; hand = a.hand; stood = length built_ins + count (items n (length built_ins) a.under) } ∷ calls n (length built_ins) a.under = sym e ∙ a.calls_are in
           let kEq : record { ended = a.ended; hand = a.hand; stood = length built_ins + count (items n (length built_ins) a.under) } ≡ k = cc in
@@ -86,7 +87,7 @@ module _ {n : ℕ} {heads whole start : List ℕ} {r : Run} {l o : List ℕ} {s 
       go : (t : Bool) → S.own_call s ≡ t → Sim (M.apply r x heads (lent l o)) (S.apply L t x s)
       go true e = rw (own_is h ∙ e) (innermost e s.calls refl)
       go false e = rw (own_is h ∙ e)
-          (by_bodies_in built_ins_free h Sim (M.keeping heads (M.put r x (lent l o))) (M.keeping heads (M.ends Outcomes.applies_nothing r (lent l o))) (λ Bs. S.apply_none L Bs x s) (λ q. put_byte built_ins_free h x) (λ B Bs q. refusal built_ins_free h Outcomes.applies_nothing))
+          (by_bodies_in built_ins_free h Sim (M.keeping heads (M.put r x (lent l o))) (M.keeping heads (M.ends AppliesNothing r (lent l o))) (λ Bs. S.apply_none L Bs x s) (λ q. put_byte built_ins_free h x) (λ B Bs q. refusal built_ins_free h AppliesNothing))
 
   -- `~`
   fetch_sim : (x : ℕ) → Kept (M.fetch r x (lent l o)) (S.fetch L (language T) s.bodies x s)

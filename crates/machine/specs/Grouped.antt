@@ -1,4 +1,5 @@
 -- Document 02, Thirteen: what the index holds, and what a lookup finds by it, as both are read off the heads and the cells.
+use Rattle.std.specs.Prelude.{Some}
 use Rattle.std.specs.Prelude.{ℕ, zero, suc, ◌+◌, ◌≤◌, ◌<◌, ◌≡◌, cond, List, ◌++◌, length, get_or, eqb}
 use Rattle.std.specs.Prelude.{Option, Some}
 use Rattle.memory.specs.Block.{block}
@@ -8,9 +9,9 @@ use Rattle.language.specs.Definitions as D
 use Rattle.language.specs.Groups.{groups, of_group, content_of}
 use Rattle.language.specs.BuiltIns.{built_ins}
 use Rattle.language.specs.Scanning.{Step, next, stop}
-use Rattle.machine.specs.declared.run.Answer.TheVariants.{GoesOn, Ended}
+use Rattle.machine.specs.declared.run.Answer.TheVariants.{GoesOn}
 use Rattle.machine.specs.Walks.{nowhere, size, newest}
-use Rattle.machine.specs.Machine.{Indexed}
+use Rattle.machine.specs.Machine.{outcome_in, Indexed}
 use Rattle.machine.specs.Held.{definition_at, group_held}
 
 -- what stands at a position that a lookup came to, or what it came to where it found none
@@ -30,7 +31,7 @@ pub record Grouped (older : List Definition) (heads l : List ℕ) (ds : List Def
 -- ended, the run has, with the same outcome.
 abbrev pub Indexes : Indexed → Step → Type 0
 Indexes x (next s) = (x.after.answer ≡ GoesOn) × Grouped built_ins x.heads x.after.lent.cells s.standing.definitions
-Indexes x (stop e) = x.after.answer ≡ Ended e.outcome
+Indexes x (stop e) = outcome_in x.after.answer ≡ Some e.outcome
 
 -- where a walk over definitions is after so many turns
 unfoldable pub position_after : ℕ → List ℕ → ℕ → ℕ

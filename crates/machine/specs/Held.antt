@@ -1,4 +1,5 @@
 -- Lent memory and a run that hold a standing of the language.
+use Rattle.std.specs.Prelude.{Some}
 use Rattle.std.specs.Prelude.{ℕ, zero, suc, ◌+◌, ◌≤◌, ◌≡◌, cond, List, [], ◌∷◌, ◌++◌, length, take, drop, get_or, eqb, leb}
 use Rattle.memory.specs.Block.{block}
 use Rattle.language.specs.Signs.{cells_limit}
@@ -7,12 +8,11 @@ use Rattle.language.specs.Ends.{End}
 use Rattle.language.specs.Scanning.{State, Standing}
 use Rattle.language.specs.Expansion.{Lent}
 use Rattle.machine.specs.declared.run.Run.{Run}
-use Rattle.machine.specs.declared.run.Answer.TheVariants.{Ended}
 use Rattle.machine.specs.Walks.{head_size, list_overhead, high, low, is_locked, name_length, room, value_length, size, list_link, group_link}
 use Rattle.machine.specs.Items.{Item, encode, width, definitions_of, count}
 use Rattle.machine.specs.Index.{Index}
 use Rattle.machine.specs.Frames.{Places, Frame, items, places, lefts, calls, bodies, Valid}
-use Rattle.machine.specs.Machine.{After}
+use Rattle.machine.specs.Machine.{outcome_in, After}
 
 -- The definitions in the cells ---------------------------------------------------------------------------------------
 
@@ -80,7 +80,7 @@ standing_of e = record { definitions = e.definitions; output = e.output; read = 
 
 -- what a function leaves is that end
 pub record EndsAs (older : List Definition) (start : List ℕ) (a : After) (e : End) : Type 0 where
-  pub answer : a.answer ≡ Ended e.outcome
+  pub answer : outcome_in a.answer ≡ Some e.outcome
   pub shows : Shows older start a.run a.lent (standing_of e)
 
 -- How a state lies in the cells --------------------------------------------------------------------------------------

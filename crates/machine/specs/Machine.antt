@@ -1,23 +1,22 @@
 -- The standing, the range of its numbers and what a function leaves, as the promise of `go_on` has them (specs/Moving); then what
 -- each function of the code does, exactly, for any content of the cells: one definition for each function. Those nobody has to
 -- believe: proofs/ shows that they are the scanning of crate language.
-use Rattle.std.specs.Prelude.{ℕ, zero, suc, ◌+◌, ◌-◌, ◌%◌, ◌≤◌, ◌<◌, max, ◌≡◌, Bool, true, false, cond, List, length, get_or, set, eqb, leb, ltb}
+use Rattle.std.specs.Prelude.{Option, None, Some, Result, Ok, Err, ℕ, zero, suc, ◌+◌, ◌-◌, ◌%◌, ◌≤◌, ◌<◌, max, ◌≡◌, Bool, true, false, cond, List, length, get_or, set, eqb, leb, ltb}
 use Rattle.memory.specs.Block.{moved, copied, low_bytes}
 use Rattle.language.specs.declared.built_ins.BuiltIn.{BuiltIn}
 use Rattle.language.specs.declared.built_ins.BuiltIn.TheVariants.{Def, Val, Update, Arithmetic, Seq, Size, If, Lock}
-use Rattle.language.specs.Signs.{is_letter, cells_limit}
-use Rattle.language.specs.Outcomes
+use Rattle.language.specs.Signs.{is_letter, cells_limit, sign_of}
+use Rattle.language.specs.declared.outcomes.Outcome.{Outcome}
+use Rattle.language.specs.Outcomes.{number_of, outcome_of}
+use Rattle.language.specs.declared.signs.Sign.{Sign}
+use Rattle.language.specs.declared.signs.Sign.TheVariants.{Plain, Dollar, Comma, Semicolon, Tilde, Quote, Unquote}
 use Rattle.language.specs.BuiltIns.{needs}
 use Rattle.language.specs.Charge.{open_price}
 use Rattle.language.specs.Expansion.{Lent}
 use Rattle.machine.specs.Walks.{nowhere, mark, packed, high, low, cell, head_size, arguments_from, list_overhead, is_locked, with_lock, name_length, room, value_length, with_value_length, with_head, right_before, with_right_before, list_link, return_link, with_links, argument, newest, definitions, is_read, chosen, removed, linked_at, headed_at, relinked, restored, built_in_named, compare, calculate}
-use Rattle.decimal.specs.declared.operations.Answer as Arithmetical
-use Rattle.decimal.specs.declared.shortest.Decimal.{Decimal}
+use Rattle.decimal.specs.declared.operations.Refusal.{Refusal}
 use Rattle.decimal.specs.Operand.{is_digit}
 use Rattle.decimal.specs.Shortest.{digits}
-use Rattle.decimal.specs.Answers.{decimal_of}
-use Rattle.machine.specs.declared.operands.Named.{Named}
-use Rattle.machine.specs.declared.operands.Named.TheVariants.{Known, Unknown}
 use Rattle.machine.specs.declared.run.Calls.{Calls}
 use Rattle.machine.specs.declared.run.Source.{Source}
 use Rattle.machine.specs.declared.run.Counts.{Counts}
@@ -25,6 +24,8 @@ use Rattle.machine.specs.declared.run.Run.{Run}
 use Rattle.machine.specs.declared.run.Answer.{Answer}
 use Rattle.machine.specs.declared.run.Answer.TheVariants.{GoesOn, Ended, Damaged, Refused}
 use Rattle.machine.specs.declared.run.Stepped.{Stepped}
+use Rattle.language.specs.declared.outcomes.Outcome.TheVariants.{AppliesNothing, BodyBeingRead, BodyInCall, EmptyName, FetchesNothing, Finished, FinishedAtQuote, Locked, NoCellsLeft, NoOutputLeft, NotDefined, NotSupplied, ParameterInText, QuoteInCall, TextInCall, TextInQuotes, UpdateTooLong}
+use Rattle.language.specs.declared.outcomes.Outcome.TheVariants as Outcomes
 
 -- The standing -------------------------------------------------------------------------------------------------------
 
@@ -171,9 +172,16 @@ leaves_indexed st m h = record { after = leaves st m; heads = h }
 abbrev pub keeping : List ℕ → After → Indexed
 keeping h a = record { after = a; heads = h }
 
+-- the number of the outcome that a run ended with
+abbrev pub outcome_in : Answer → Option ℕ
+outcome_in GoesOn = None
+outcome_in (Ended outcome) = Some (number_of outcome)
+outcome_in Damaged = None
+outcome_in Refused = None
+
 -- an outcome with nothing changed
-abbrev pub ends : ℕ → Run → Lent → After
-ends n r m = record { run = r; answer = Ended n; lent = m }
+abbrev pub ends : Outcome → Run → Lent → After
+ends outcome r m = record { run = r; answer = Ended outcome; lent = m }
 
 abbrev pub goes : Run → Lent → After
 goes r m = record { run = r; answer = GoesOn; lent = m }
@@ -192,12 +200,12 @@ with_output o m = record { cells = m.cells; output = o }
 
 abbrev pub write : Run → ℕ → Lent → After
 write r b m =
-    cond (leb (length m.output) r.counts.written) (ends Outcomes.no_output_left r m)
+    cond (leb (length m.output) r.counts.written) (ends NoOutputLeft r m)
     (goes (wrote 1 r) (with_output (set m.output r.counts.written b) m))
 
 abbrev pub collect : Run → ℕ → Lent → After
 collect r b m =
-    cond (leb (length m.cells) r.charge) (ends Outcomes.no_cells_left r m)
+    cond (leb (length m.cells) r.charge) (ends NoCellsLeft r m)
     (goes (collected 1 r) (with_cells (set m.cells r.calls.left b) m))
 
 abbrev pub put : Run → ℕ → Lent → After
@@ -205,12 +213,12 @@ put r b m = cond (eqb r.calls.call nowhere) (write r b m) (collect r b m)
 
 abbrev pub write_block : Run → ℕ → ℕ → Lent → After
 write_block r from count m =
-    cond (ltb (length m.output - r.counts.written) count) (ends Outcomes.no_output_left r m)
+    cond (ltb (length m.output - r.counts.written) count) (ends NoOutputLeft r m)
     (goes (wrote count r) (with_output (copied from r.counts.written count (low_bytes m.cells) m.output) m))
 
 abbrev pub collect_block : Run → ℕ → ℕ → Lent → After
 collect_block r from count m =
-    cond (ltb (length m.cells - r.charge) count) (ends Outcomes.no_cells_left r m)
+    cond (ltb (length m.cells - r.charge) count) (ends NoCellsLeft r m)
     (goes (collected count r) (with_cells (moved from r.calls.left count m.cells) m))
 
 abbrev pub copy : Run → ℕ → ℕ → Lent → After
@@ -224,7 +232,7 @@ open_at r p l = with_links (with_right_before l p (cell r.right)) p (cell r.sour
 
 abbrev pub open_call : Run → Lent → After
 open_call r m =
-    cond (ltb (length m.cells - r.charge) open_price) (ends Outcomes.no_cells_left r m)
+    cond (ltb (length m.cells - r.charge) open_price) (ends NoCellsLeft r m)
     (goes (opened r) (with_cells (open_at r r.calls.left m.cells) m))
 
 -- the length of the argument in hand goes into its cell
@@ -233,7 +241,7 @@ end_argument r l = cond (ltb r.calls.hand r.calls.left) (set l r.calls.hand (cel
 
 abbrev pub end_by_comma : Run → Lent → After
 end_by_comma r m =
-    cond (leb (length m.cells) r.charge) (ends Outcomes.no_cells_left r m) (goes (separated r) (with_cells (end_argument r m.cells) m))
+    cond (leb (length m.cells) r.charge) (ends NoCellsLeft r m) (goes (separated r) (with_cells (end_argument r m.cells) m))
 
 abbrev pub separate : Run → ℕ → Lent → After
 separate r b m = cond (eqb r.calls.call nowhere) (write r b m) (end_by_comma r m)
@@ -249,20 +257,20 @@ abbrev pub parameter_number : ℕ → ℕ
 parameter_number b = cond (is_letter b) (b - 97 + 10) (cond (is_digit b) (b - 48) nowhere)
 
 abbrev pub fetch_in_text : Run → ℕ → Lent → After
-fetch_in_text r b m = cond (eqb r.calls.call nowhere) (write r b m) (ends Outcomes.parameter_in_text r m)
+fetch_in_text r b m = cond (eqb r.calls.call nowhere) (write r b m) (ends ParameterInText r m)
 
 -- the parameter whose length cell is at p
 abbrev pub fetch_argument : Run → ℕ → Lent → After
 fetch_argument r p m =
-    cond (eqb p nowhere) (ends Outcomes.not_supplied r m) (copy (with_offset (r.source.offset + 1) r) (p + 1) (get_or m.cells p 0) m)
+    cond (eqb p nowhere) (ends NotSupplied r m) (copy (with_offset (r.source.offset + 1) r) (p + 1) (get_or m.cells p 0) m)
 
 abbrev pub fetch_number : Run → ℕ → Lent → After
 fetch_number r k m =
-    cond (eqb k nowhere) (ends Outcomes.fetches_nothing r m) (fetch_argument r (argument m.cells (r.source.list + arguments_from) k) m)
+    cond (eqb k nowhere) (ends FetchesNothing r m) (fetch_argument r (argument m.cells (r.source.list + arguments_from) k) m)
 
 abbrev pub fetch_in_body : Run → Lent → After
 fetch_in_body r m =
-    cond (eqb (body_byte r m.cells) nowhere) (ends Outcomes.fetches_nothing r m) (fetch_number r (parameter_number (body_byte r m.cells)) m)
+    cond (eqb (body_byte r m.cells) nowhere) (ends FetchesNothing r m) (fetch_number r (parameter_number (body_byte r m.cells)) m)
 
 abbrev pub fetch : Run → ℕ → Lent → After
 fetch r b m = cond (eqb r.source.list nowhere) (fetch_in_text r b m) (fetch_in_body r m)
@@ -270,12 +278,12 @@ fetch r b m = cond (eqb r.source.list nowhere) (fetch_in_text r b m) (fetch_in_b
 abbrev pub unquote : Run → ℕ → Lent → After
 unquote r b m =
     cond (eqb r.source.list nowhere)
-    (cond (eqb r.calls.call nowhere) (ends Outcomes.finished_at_quote r m) (ends Outcomes.quote_in_call r m)) (put r b m)
+    (cond (eqb r.calls.call nowhere) (ends FinishedAtQuote r m) (ends QuoteInCall r m)) (put r b m)
 
 abbrev pub end_text : Run → Lent → After
 end_text r m =
-    cond (ltb 0 r.quotes) (ends Outcomes.text_in_quotes r m)
-    (cond (eqb r.calls.call nowhere) (ends Outcomes.finished r m) (ends Outcomes.text_in_call r m))
+    cond (ltb 0 r.quotes) (ends TextInQuotes r m)
+    (cond (eqb r.calls.call nowhere) (ends Finished r m) (ends TextInCall r m))
 
 -- whether the innermost open call was begun in the body, or in the text, being read
 abbrev pub own_call : Run → List ℕ → Bool
@@ -316,7 +324,7 @@ abbrev pub end_body : Run → List ℕ → Lent → Indexed
 end_body r h m =
     let l = m.cells in
     let list = r.source.list in
-    cond (own_call r l) (keeping h (ends Outcomes.body_in_call r m))
+    cond (own_call r l) (keeping h (ends BodyInCall r m))
     (end_body_to r (right_before l list) (list_link l list) (return_link l list)
     (definitions l (list + high (list_link l list) + list_overhead) (right_before l list)) h m)
 
@@ -344,7 +352,7 @@ release r kept m =
 -- a function goes on from what another leaves, unless that ended
 abbrev pub goes_on : Answer → Bool
 goes_on GoesOn = true
-goes_on (Ended n) = false
+goes_on (Ended outcome) = false
 goes_on Damaged = false
 goes_on Refused = false
 
@@ -377,7 +385,7 @@ define_in r name value letters bytes h m =
 abbrev pub def : Run → ℕ → ℕ → List ℕ → Lent → Indexed
 def r name value h m =
     let l = m.cells in
-    cond (eqb (get_or l name 0) 0) (keeping h (ends Outcomes.empty_name r m))
+    cond (eqb (get_or l name 0) 0) (keeping h (ends EmptyName r m))
     (onward (unindexed r h (release r 0 m)) (λ r₁ h₁. define_in r₁ name value (get_or l name 0) (get_or l value 0) h₁ m))
 
 -- A result of so many bytes: it is charged where a call collects it, and counted where it goes to the output; then its call ends.
@@ -385,11 +393,11 @@ abbrev pub is_outer : Run → List ℕ → Bool
 is_outer r l = eqb (low (return_link l r.calls.call)) nowhere
 
 abbrev pub give_in : Run → ℕ → Lent → After
-give_in r count m = cond (ltb (length m.cells - r.charge) count) (ends Outcomes.no_cells_left r m) (release (charged count r) count m)
+give_in r count m = cond (ltb (length m.cells - r.charge) count) (ends NoCellsLeft r m) (release (charged count r) count m)
 
 abbrev pub give_out : Run → ℕ → Lent → After
 give_out r count m =
-    cond (ltb (length m.output - r.counts.written) count) (ends Outcomes.no_output_left r m) (release (wrote count r) 0 m)
+    cond (ltb (length m.output - r.counts.written) count) (ends NoOutputLeft r m) (release (wrote count r) 0 m)
 
 abbrev pub give : Run → ℕ → Lent → After
 give r count m = cond (is_outer r m.cells) (give_out r count m) (give_in r count m)
@@ -400,10 +408,10 @@ place_block r from count m =
     cond (is_outer r m.cells) (with_output (copied from r.counts.written count (low_bytes m.cells) m.output) m)
     (with_cells (moved from r.calls.call count m.cells) m)
 
-abbrev pub place_text : Run → List ℕ → ℕ → Lent → Lent
-place_text r bytes count m =
-    cond (is_outer r m.cells) (with_output (copied 0 r.counts.written count bytes m.output) m)
-    (with_cells (copied 0 r.calls.call count bytes m.cells) m)
+abbrev pub place_text : Run → List ℕ → Lent → Lent
+place_text r t m =
+    cond (is_outer r m.cells) (with_output (copied 0 r.counts.written (length t) t m.output) m)
+    (with_cells (copied 0 r.calls.call (length t) t m.cells) m)
 
 -- what stands in m is in the lent memory where the run goes on
 abbrev pub placing : After → Lent → After
@@ -412,13 +420,13 @@ placing a m = cond (goes_on a.answer) (record { run = a.run; answer = a.answer; 
 abbrev pub give_block : Run → ℕ → ℕ → Lent → After
 give_block r from count m = placing (give r count m) (place_block r from count m)
 
-abbrev pub give_decimal : Run → Decimal → Lent → After
-give_decimal r t m = placing (give r t.len m) (place_text r t.bytes t.len m)
+abbrev pub give_decimal : Run → List ℕ → Lent → After
+give_decimal r t m = placing (give r (length t) m) (place_text r t m)
 
 -- "15, 19": a name that no definition has
-abbrev pub refuse_named : Named → Run → Lent → After
-refuse_named Unknown r m = ends Outcomes.not_defined r m
-refuse_named (Known b) r m = ends Outcomes.built_in r m
+abbrev pub refuse_named : Option BuiltIn → Run → Lent → After
+refuse_named None r m = ends NotDefined r m
+refuse_named (Some b) r m = ends Outcomes.BuiltIn r m
 
 abbrev pub refuse_name : Run → ℕ → Lent → After
 refuse_name r name m = refuse_named (built_in_named m.cells name) r m
@@ -437,7 +445,7 @@ abbrev pub update_in : Run → ℕ → ℕ → Lent → After
 update_in r value d m =
     let l = m.cells in
     let a = release r 0 m in
-    cond (ltb (room l d) (get_or l value 0)) (ends Outcomes.update_too_long r m)
+    cond (ltb (room l d) (get_or l value 0)) (ends UpdateTooLong r m)
     (record {
       run = a.run;
       answer = a.answer;
@@ -446,8 +454,8 @@ update_in r value d m =
 
 abbrev pub update_at : Run → ℕ → ℕ → Lent → After
 update_at r value d m =
-    cond (is_locked m.cells d) (ends Outcomes.locked r m)
-    (cond (is_read m.cells r.source.list r.source.body d) (ends Outcomes.body_being_read r m) (update_in r value d m))
+    cond (is_locked m.cells d) (ends Locked r m)
+    (cond (is_read m.cells r.source.list r.source.body d) (ends BodyBeingRead r m) (update_in r value d m))
 
 abbrev pub update_of : Run → ℕ → ℕ → ℕ → Lent → After
 update_of r name value d m = cond (eqb d nowhere) (refuse_name r name m) (update_at r value d m)
@@ -456,13 +464,13 @@ abbrev pub update : Run → ℕ → ℕ → List ℕ → Lent → After
 update r name value h m = update_of r name value (newest m.cells h name) m
 
 -- the arithmetic
-abbrev pub give_answer : Run → Arithmetical.Answer → Lent → After
-give_answer r a m =
-    cond (eqb a.outcome Outcomes.finished) (give_decimal r a.decimal m) (ends a.outcome r m)
+abbrev pub give_answer : Run → Result (List ℕ) Refusal → Lent → After
+give_answer r (Ok t) m = give_decimal r t m
+give_answer r (Err refusal) m = ends (outcome_of refusal) r m
 
 -- a count: the results of SEQ and SIZE
 abbrev pub give_count : Run → ℕ → Lent → After
-give_count r count m = give_decimal r (decimal_of (digits count)) m
+give_count r count m = give_decimal r (digits count) m
 
 -- IF gives a parameter, or nothing
 abbrev pub choose_at : Run → ℕ → ℕ → Lent → After
@@ -499,11 +507,11 @@ perform r b name h m = perform_in r b name (argument m.cells name 1) (argument m
 -- 13: "a parameter .. needed by a built-in, was not supplied"
 abbrev pub supplied : Run → BuiltIn → ℕ → List ℕ → Lent → Indexed
 supplied r b name h m =
-    cond (eqb (argument m.cells name (needs b)) nowhere) (keeping h (ends Outcomes.not_supplied r m)) (perform r b name h m)
+    cond (eqb (argument m.cells name (needs b)) nowhere) (keeping h (ends NotSupplied r m)) (perform r b name h m)
 
-abbrev pub apply_named : Run → Named → ℕ → List ℕ → Lent → Indexed
-apply_named r Unknown name h m = keeping h (ends Outcomes.not_defined r m)
-apply_named r (Known b) name h m = supplied r b name h m
+abbrev pub apply_named : Run → Option BuiltIn → ℕ → List ℕ → Lent → Indexed
+apply_named r None name h m = keeping h (ends NotDefined r m)
+apply_named r (Some b) name h m = supplied r b name h m
 
 abbrev pub apply_built_in : Run → ℕ → List ℕ → Lent → Indexed
 apply_built_in r name h m = apply_named r (built_in_named m.cells name) name h m
@@ -535,35 +543,42 @@ apply_marked r h m = apply_found r (newest m.cells h (r.calls.call + arguments_f
 
 abbrev pub apply_call : Run → List ℕ → Lent → Indexed
 apply_call r h m =
-    cond (leb (length m.cells) r.charge) (keeping h (ends Outcomes.no_cells_left r m))
+    cond (leb (length m.cells) r.charge) (keeping h (ends NoCellsLeft r m))
     (cond (ltb r.calls.left (r.calls.call + open_price)) (keeping h (damaged r m))
     (apply_marked (charged 1 r) h (with_cells (set (end_argument r m.cells) r.calls.left mark) m)))
 
 abbrev pub apply : Run → ℕ → List ℕ → Lent → Indexed
 apply r b h m =
     cond (own_call r m.cells) (apply_call r h m)
-    (cond (eqb r.source.list nowhere) (keeping h (put r b m)) (keeping h (ends Outcomes.applies_nothing r m)))
+    (cond (eqb r.source.list nowhere) (keeping h (put r b m)) (keeping h (ends AppliesNothing r m)))
 
 -- One scan -----------------------------------------------------------------------------------------------------------
 
-abbrev pub quotes_after : ℕ → ℕ → ℕ
-quotes_after q kind = cond (eqb kind 5) (q + 1) (cond (eqb kind 6) (q - 1) q)
+abbrev pub quotes_after : ℕ → Sign → ℕ
+quotes_after q Plain = q
+quotes_after q Dollar = q
+quotes_after q Comma = q
+quotes_after q Semicolon = q
+quotes_after q Tilde = q
+quotes_after q Quote = q + 1
+quotes_after q Unquote = q - 1
 
-abbrev pub scan_quoted : Run → ℕ → ℕ → Lent → After
-scan_quoted r kind b m =
-    let q = quotes_after r.quotes kind in
+abbrev pub scan_quoted : Run → Sign → ℕ → Lent → After
+scan_quoted r sign b m =
+    let q = quotes_after r.quotes sign in
     cond (eqb q 0) (goes (with_quotes 0 r) m) (put (with_quotes q r) b m)
 
-abbrev pub scan_sign : Run → ℕ → ℕ → List ℕ → Lent → Indexed
-scan_sign r kind b h m =
-    cond (eqb kind 1) (keeping h (open_call r m))
-    (cond (eqb kind 2) (keeping h (separate r b m))
-    (cond (eqb kind 3) (apply r b h m)
-    (cond (eqb kind 4) (keeping h (fetch r b m))
-    (cond (eqb kind 5) (keeping h (goes (with_quotes 1 r) m)) (cond (eqb kind 6) (keeping h (unquote r b m)) (keeping h (put r b m)))))))
+abbrev pub scan_sign : Run → Sign → ℕ → List ℕ → Lent → Indexed
+scan_sign r Plain b h m = keeping h (put r b m)
+scan_sign r Dollar b h m = keeping h (open_call r m)
+scan_sign r Comma b h m = keeping h (separate r b m)
+scan_sign r Semicolon b h m = apply r b h m
+scan_sign r Tilde b h m = keeping h (fetch r b m)
+scan_sign r Quote b h m = keeping h (goes (with_quotes 1 r) m)
+scan_sign r Unquote b h m = keeping h (unquote r b m)
 
-abbrev pub scan_byte : Run → ℕ → ℕ → List ℕ → Lent → Indexed
-scan_byte r kind b h m = cond (ltb 0 r.quotes) (keeping h (scan_quoted r kind b m)) (scan_sign r kind b h m)
+abbrev pub scan_byte : Run → Sign → ℕ → List ℕ → Lent → Indexed
+scan_byte r sign b h m = cond (ltb 0 r.quotes) (keeping h (scan_quoted r sign b m)) (scan_sign r sign b h m)
 
 -- the next byte of the innermost body, else of the text, or nowhere at its end; the standing behind it; and that end
 abbrev pub next_byte : Run → List ℕ → List ℕ → ℕ
@@ -581,12 +596,12 @@ end_source r h m = cond (eqb r.source.list nowhere) (keeping h (end_text r m)) (
 abbrev pub scan_text : Run → List ℕ → List ℕ → List ℕ → Lent → Indexed
 scan_text r kinds text h m =
     let b = get_or text r.counts.read 0 in
-    cond (leb (length text) r.counts.read) (keeping h (end_text r m)) (scan_byte (with_read (r.counts.read + 1) r) (get_or kinds b 0) b h m)
+    cond (leb (length text) r.counts.read) (keeping h (end_text r m)) (scan_byte (with_read (r.counts.read + 1) r) (sign_of kinds b) b h m)
 
 abbrev pub scan_body : Run → List ℕ → List ℕ → Lent → Indexed
 scan_body r kinds h m =
     let b = body_byte r m.cells in
-    cond (eqb b nowhere) (end_body r h m) (scan_byte (with_offset (r.source.offset + 1) r) (get_or kinds b 0) b h m)
+    cond (eqb b nowhere) (end_body r h m) (scan_byte (with_offset (r.source.offset + 1) r) (sign_of kinds b) b h m)
 
 -- "One scan takes the standing of the run and gives the next."
 unfoldable pub step : Run → List ℕ → List ℕ → List ℕ → Lent → Indexed

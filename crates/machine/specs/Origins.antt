@@ -1,10 +1,14 @@
 -- Where each byte of the output came from: what `go_on` promises beside `Moves`, and what its functions do.
 use Rattle.std.specs.Prelude.{ℕ, ◌+◌, ◌-◌, ◌%◌, ◌<◌, ◌≡◌, Bool, true, false, cond, List, length, get_or, eqb, ltb}
 use Rattle.memory.specs.Block.{placed, same_bytes, filled}
-use Rattle.language.specs.Signs.{Bytes, Table, ascii, language}
+use Rattle.language.specs.declared.rules.Rule.{Rule}
+use Rattle.language.specs.declared.rules.Rule.TheVariants.{CopiedFromText, CopiedFromBody, Fetched, GivenByVal, GivenByBuiltIn}
+use Rattle.language.specs.declared.signs.Sign.{Sign}
+use Rattle.language.specs.declared.signs.Sign.TheVariants.{Plain, Dollar, Comma, Semicolon, Tilde, Quote, Unquote}
+use Rattle.language.specs.Signs.{Bytes, Table, ascii, sign_of, language}
 use Rattle.language.specs.Scanning.{State, next}
 use Rattle.language.specs.Expansion.{Lent, limits_of}
-use Rattle.language.specs.Origins.{copied_from_text, copied_from_body, fetched, given_by_val, given_by_built_in, Origin, origins_from, reads_of, rules_of, Numbers, numbers, too_short}
+use Rattle.language.specs.Origins.{rule_number, Origin, origins_from, reads_of, rules_of, Numbers, numbers, too_short}
 use Rattle.machine.specs.declared.run.Run.{Run}
 use Rattle.machine.specs.Walks.{nowhere, cell, arguments_from}
 use Rattle.machine.specs.Machine.{body_byte}
@@ -33,30 +37,39 @@ pub record Notes (T : Table) (text : Bytes) (allowance : ℕ) (r : Run) (h : Lis
 
 -- What each function does --------------------------------------------------------------------------------------------
 
+abbrev pub is_tilde : Sign → Bool
+is_tilde Plain = false
+is_tilde Dollar = false
+is_tilde Comma = false
+is_tilde Semicolon = false
+is_tilde Tilde = true
+is_tilde Quote = false
+is_tilde Unquote = false
+
 -- whether the next byte of the body being read is an unquoted `~`
 abbrev pub fetches_next : Run → List ℕ → List ℕ → Bool
-fetches_next r kinds l = cond (ltb 0 r.quotes) false (eqb (get_or kinds (body_byte r l % 256) 0) 4)
+fetches_next r kinds l = cond (ltb 0 r.quotes) false (is_tilde (sign_of kinds (body_byte r l % 256)))
 
 -- VAL, or another built-in, by the name at a length cell
-abbrev pub given_by_name : List ℕ → ℕ → ℕ
-given_by_name l name = cond (same_bytes (name + 1) (get_or l name 0) (ascii "VAL") l) given_by_val given_by_built_in
+abbrev pub given_by_name : List ℕ → ℕ → Rule
+given_by_name l name = cond (same_bytes (name + 1) (get_or l name 0) (ascii "VAL") l) GivenByVal GivenByBuiltIn
 
 -- the rule by which the next scan writes, if it does: while a call is open only a built-in gives to the output
-abbrev pub rule : Run → List ℕ → List ℕ → ℕ
+abbrev pub rule : Run → List ℕ → List ℕ → Rule
 rule r kinds l =
     cond (eqb r.calls.call nowhere)
-    (cond (eqb r.source.list nowhere) copied_from_text (cond (fetches_next r kinds l) fetched copied_from_body))
+    (cond (eqb r.source.list nowhere) CopiedFromText (cond (fetches_next r kinds l) Fetched CopiedFromBody))
     (given_by_name l (r.calls.call + arguments_from))
 
 -- what was written between two standings came by this rule
-abbrev pub note : Run → Run → ℕ → Numbers → Numbers
+abbrev pub note : Run → Run → Rule → Numbers → Numbers
 note r r' k ns =
     let from = r.counts.written in
     let count = r'.counts.written - from in
-    numbers (filled from count (cell r'.counts.read) ns.origins) (filled from count k ns.rules)
+    numbers (filled from count (cell r'.counts.read) ns.origins) (filled from count (rule_number k) ns.rules)
 
 -- where any is noted at all
-abbrev pub note_unless : Bool → Run → Run → ℕ → Numbers → Numbers
+abbrev pub note_unless : Bool → Run → Run → Rule → Numbers → Numbers
 note_unless silent r r' k ns = cond silent ns (note r r' k ns)
 
 -- all scans that are left, or one that is to be noted

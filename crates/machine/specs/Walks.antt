@@ -1,9 +1,9 @@
 -- Walks over lent cells: what each function answers, exactly, for any content of the cells. A walk makes at most so many turns.
 use Rattle.std.specs.Prelude.{ℕ, zero, suc, ◌+◌, ◌*◌, ◌/◌, ◌%◌, Bool, true, false, cond, List, [], ◌∷◌, length, get_or, set, eqb, leb, ltb, ℤ}
-use Rattle.std.specs.Prelude.{Option, None}
+use Rattle.std.specs.Prelude.{Option, None, Some, Result}
 use Rattle.memory.specs.Block.{within, block, low_bytes, same_blocks, same_bytes}
 use Rattle.decimal.specs.declared.operations.Operation.{Operation}
-use Rattle.decimal.specs.declared.operations.Answer.{Answer}
+use Rattle.decimal.specs.declared.operations.Refusal.{Refusal}
 use Rattle.decimal.specs.Operand.{operand}
 use Rattle.decimal.specs.Arithmetic.{of_operands}
 use Rattle.decimal.specs.Answers.{answer_of}
@@ -11,8 +11,7 @@ use Rattle.language.specs.Signs.{ascii}
 use Rattle.language.specs.Definitions.{Content, macro, built_in, Definition}
 use Rattle.language.specs.Groups.{group, of_group}
 use Rattle.language.specs.BuiltIns.{built_ins}
-use Rattle.machine.specs.declared.operands.Named.{Named}
-use Rattle.machine.specs.declared.operands.Named.TheVariants.{Known, Unknown}
+use Rattle.language.specs.declared.built_ins.BuiltIn.{BuiltIn}
 
 -- no call, and the text
 abbrev pub nowhere : ℕ
@@ -211,19 +210,19 @@ restored l heads from to = restored_from (length l) l heads from to
 
 -- The names of the built-ins, and what some come to ------------------------------------------------------------------
 
-abbrev pub named_as : Content → Named
-named_as (built_in b) = Known b
-named_as (macro x) = Unknown
+abbrev pub named_as : Content → Option BuiltIn
+named_as (built_in b) = Some b
+named_as (macro x) = None
 
 -- the first of the definitions, built-ins all, that has the name at a length cell
-unfoldable pub named_among : List ℕ → ℕ → List Definition → Named
-named_among l name [] = Unknown
+unfoldable pub named_among : List ℕ → ℕ → List Definition → Option BuiltIn
+named_among l name [] = None
 named_among l name (d ∷ ds) =
     let r = named_among l name ds in
     cond (same_bytes (name + 1) (get_or l name 0) d.name l) (named_as d.content) r
 
 -- the built-ins are the oldest of their groups, and only those of the name's group are looked at
-abbrev pub built_in_named : List ℕ → ℕ → Named
+abbrev pub built_in_named : List ℕ → ℕ → Option BuiltIn
 built_in_named l name = named_among l name (of_group (name_group l name) built_ins)
 
 -- SEQ: 1 where two arguments are the same, their lengths and their bytes, else 0
@@ -234,5 +233,5 @@ compare l first second = cond (same_blocks first second (get_or l first 0 + 1) l
 abbrev pub operand_at : List ℕ → ℕ → Option ℤ
 operand_at l p = cond (within (p + 1) (get_or l p 0) l) (operand (block (p + 1) (get_or l p 0) (low_bytes l))) None
 
-abbrev pub calculate : Operation → List ℕ → ℕ → ℕ → Answer
+abbrev pub calculate : Operation → List ℕ → ℕ → ℕ → Result (List ℕ) Refusal
 calculate op l first second = answer_of (of_operands op (operand_at l first) (operand_at l second))

@@ -7,7 +7,7 @@ ghost use Rattle.machine.specs.Machine.{Sound, Marked, leaves, leaves_indexed, b
 
 use crate::run::{Calls, Run, Source, Stepped};
 use crate::{layout, lookup};
-use language::outcomes;
+use language::outcomes::Outcome;
 
 impl Run {
     // `;` in a body with no call begun in it is 10, in the text it is copied.
@@ -27,7 +27,7 @@ impl Run {
         if self.source.list == Run::NOWHERE {
             return self.put(byte, cells, output);
         }
-        self.ends_with(outcomes::APPLIES_NOTHING)
+        self.ends_with(Outcome::AppliesNothing)
     }
 
     // "4 for its own cell, 15, 13, then the built-in's, then 4, then 5."
@@ -36,7 +36,7 @@ impl Run {
         ensures { leaves_indexed result (lent cells.new output.new) heads.new ≡ apply_call self heads.old (lent cells.old output.old) }
     {
         if self.charge >= cells.len() {
-            return self.ends_with(outcomes::NO_CELLS_LEFT);
+            return self.ends_with(Outcome::NoCellsLeft);
         }
         if self.calls.left < self.calls.call + layout::OPEN_SIZE {
             return self.damaged();

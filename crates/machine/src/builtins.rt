@@ -4,11 +4,11 @@ ghost use Rattle.language.specs.Signs.{cells_limit};
 ghost use Rattle.language.specs.Expansion.{lent};
 ghost use Rattle.machine.specs.Machine.{Marked, Resulting, leaves, leaves_indexed, unindexed, release, release_to, released, defined, define_in, def, refuse_name, val, update_in, update, choose, lock, perform, supplied, apply_built_in};
 
-use crate::operands::Named;
 use crate::run::{Answer, Calls, Run, Stepped};
 use crate::{index, layout, lookup, operands};
 use language::built_ins::BuiltIn;
-use language::{Sizes, outcomes};
+use language::Sizes;
+use language::outcomes::Outcome;
 
 impl Run {
     // 15 for a name that is none of theirs.
@@ -22,10 +22,9 @@ impl Run {
         requires { (Marked (length cells.old) self) × (self.counts.written ≤ length output.old) × (name ≤ cells_limit + 4) }
         ensures { leaves_indexed result (lent cells.new output.new) heads.new ≡ apply_built_in self name heads.old (lent cells.old output.old) }
     {
-        let named = operands::built_in(cells, name);
-        match named {
-            Named::Known(built_in) => self.supplied(built_in, name, heads, cells, output),
-            Named::Unknown => self.ends_with(outcomes::NOT_DEFINED),
+        match operands::built_in(cells, name) {
+            Some(built_in) => self.supplied(built_in, name, heads, cells, output),
+            None => self.ends_with(Outcome::NotDefined),
         }
     }
 
@@ -42,7 +41,7 @@ impl Run {
         ensures { leaves_indexed result (lent cells.new output.new) heads.new ≡ supplied self built_in name heads.old (lent cells.old output.old) }
     {
         if lookup::argument(cells, name, built_in.needs()) == Run::NOWHERE {
-            return self.ends_with(outcomes::NOT_SUPPLIED);
+            return self.ends_with(Outcome::NotSupplied);
         }
         self.perform(built_in, name, heads, cells, output)
     }
@@ -145,7 +144,7 @@ impl Run {
     {
         let letters = memory::read(cells, name) as usize;
         if letters == 0 {
-            return self.ends_with(outcomes::EMPTY_NAME);
+            return self.ends_with(Outcome::EmptyName);
         }
         let bytes = memory::read(cells, value) as usize;
         let st = self.release(0, cells);
@@ -216,10 +215,9 @@ impl Run {
         requires { (length cells.now ≤ cells_limit) × (name ≤ 8589934592) }
         ensures { (o : List ℕ) → leaves result (lent cells.now o) ≡ refuse_name self name (lent cells.now o) }
     {
-        let named = operands::built_in(cells, name);
-        match named {
-            Named::Known(_) => self.ends_with(outcomes::BUILT_IN),
-            Named::Unknown => self.ends_with(outcomes::NOT_DEFINED),
+        match operands::built_in(cells, name) {
+            Some(_) => self.ends_with(Outcome::BuiltIn),
+            None => self.ends_with(Outcome::NotDefined),
         }
     }
 
@@ -233,10 +231,10 @@ impl Run {
             return self.refuse_name(name, cells);
         }
         if layout::is_locked(cells, found) {
-            return self.ends_with(outcomes::LOCKED);
+            return self.ends_with(Outcome::Locked);
         }
         if lookup::is_read(cells, self.source.list, self.source.body, found) {
-            return self.ends_with(outcomes::BODY_BEING_READ);
+            return self.ends_with(Outcome::BodyBeingRead);
         }
         self.update_in(value, found, cells)
     }
@@ -247,7 +245,7 @@ impl Run {
     {
         let count = memory::read(cells, value);
         if layout::room(cells, found) < count {
-            return self.ends_with(outcomes::UPDATE_TOO_LONG);
+            return self.ends_with(Outcome::UpdateTooLong);
         }
         let letters = layout::name_length(cells, found) as usize;
         let st = self.release(0, cells);

@@ -6,26 +6,25 @@ ghost use Rattle.machine.specs.Machine.{Marked, leaves, is_outer, give_in, give_
 
 use crate::layout;
 use crate::run::{Answer, Run, Stepped};
-use decimal::operations;
+use decimal::operations::Refusal;
 use decimal::shortest::Decimal;
-use language::outcomes;
+use language::outcomes::Outcome;
 
 impl Run {
     // The result of the arithmetic, or its refusal.
     pub(crate) fn give_answer(
         self,
-        answer: operations::Answer,
+        answer: Result<Decimal, Refusal>,
         cells: &mut [u32],
         output: &mut [u8],
     ) -> Stepped
         requires { (Marked (length cells.old) self) × (self.counts.written ≤ length output.old) }
         ensures { leaves result (lent cells.new output.new) ≡ give_answer self answer (lent cells.old output.old) }
     {
-        let outcome = answer.outcome;
-        if outcome != outcomes::FINISHED {
-            return self.ends_with(outcome);
+        match answer {
+            Ok(decimal) => self.give_decimal(&decimal, cells, output),
+            Err(refusal) => self.ends_with(Outcome::from(refusal)),
         }
-        self.give_decimal(answer.decimal, cells, output)
     }
 
     // A count, in decimal.
@@ -33,33 +32,32 @@ impl Run {
         requires { (Marked (length cells.old) self) × (self.counts.written ≤ length output.old) }
         ensures { leaves result (lent cells.new output.new) ≡ give_count self count (lent cells.old output.old) }
     {
-        self.give_decimal(Decimal::of_count(count), cells, output)
+        self.give_decimal(&Decimal::from(count), cells, output)
     }
 
     // A result that is a decimal.
-    fn give_decimal(self, text: Decimal, cells: &mut [u32], output: &mut [u8]) -> Stepped
+    fn give_decimal(self, text: &Decimal, cells: &mut [u32], output: &mut [u8]) -> Stepped
         requires { (Marked (length cells.old) self) × (self.counts.written ≤ length output.old) }
-        ensures { leaves result (lent cells.new output.new) ≡ give_decimal self text (lent cells.old output.old) }
+        ensures { leaves result (lent cells.new output.new) ≡ give_decimal self text.now (lent cells.old output.old) }
     {
-        let bytes = text.bytes;
-        let count = text.len;
-        let st = self.give(count, cells, output.len());
+        let bytes = text.as_bytes();
+        let st = self.give(bytes.len(), cells, output.len());
         let answer = st.answer;
         let Answer::GoesOn = answer else {
             return st;
         };
-        self.place_text(&bytes, count, cells, output);
+        self.place_text(bytes, cells, output);
         st
     }
 
-    fn place_text(self, bytes: &[u8; 11], count: usize, cells: &mut [u32], output: &mut [u8])
+    fn place_text(self, text: &[u8], cells: &mut [u32], output: &mut [u8])
         requires { self.calls.call ≤ nowhere }
-        ensures { lent cells.new output.new ≡ place_text self bytes.now count (lent cells.old output.old) }
+        ensures { lent cells.new output.new ≡ place_text self text.now (lent cells.old output.old) }
     {
         if self.is_outer(cells) {
-            memory::copy_bytes(bytes, output, self.counts.written, count);
+            memory::copy_bytes(text, output, self.counts.written, text.len());
         } else {
-            memory::copy_from_bytes(bytes, cells, self.calls.call, count);
+            memory::copy_from_bytes(text, cells, self.calls.call, text.len());
         }
     }
 
@@ -110,7 +108,7 @@ impl Run {
         ensures { (o : List ℕ) → length o ≡ output → leaves result (lent cells.now o) ≡ give_out self count (lent cells.now o) }
     {
         if output - self.counts.written < count {
-            return self.ends_with(outcomes::NO_OUTPUT_LEFT);
+            return self.ends_with(Outcome::NoOutputLeft);
         }
         self.wrote(count).release(0, cells)
     }
@@ -120,7 +118,7 @@ impl Run {
         ensures { (o : List ℕ) → leaves result (lent cells.now o) ≡ give_in self count (lent cells.now o) }
     {
         if cells.len() - self.charge < count {
-            return self.ends_with(outcomes::NO_CELLS_LEFT);
+            return self.ends_with(Outcome::NoCellsLeft);
         }
         self.charged(count).release(count, cells)
     }

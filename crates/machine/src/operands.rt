@@ -1,26 +1,18 @@
 // The names of the built-ins, and what some come to on their arguments.
 ghost use Rattle.std.specs.Prelude.{◌≡◌, ◌≤◌, [], ◌∷◌, length};
-ghost use Rattle.decimal.specs.Arithmetic.{as_result};
-ghost use Rattle.decimal.specs.Answers.{result_in};
 ghost use Rattle.language.specs.Signs.{cells_limit};
 ghost use Rattle.language.specs.Groups.{of_group};
 ghost use Rattle.language.specs.BuiltIns.{named, built_ins};
 ghost use Rattle.machine.specs.Walks.{built_in_named, named_among, compare, operand_at, calculate};
 
 use crate::index;
-use decimal::operations::{Answer, Operation};
-use decimal::reader::{Operand, Reader};
+use decimal::operations::{Operation, Refusal};
+use decimal::reader::Reader;
+use decimal::shortest::Decimal;
 use language::built_ins::BuiltIn;
 
-// The built-in that has a name, or that none has it.
-#[derive(Clone, Copy)]
-pub enum Named {
-    Known(BuiltIn),
-    Unknown,
-}
-
 // Which built-in has the name at a length cell: those of its group are looked at, and no others.
-pub(crate) fn built_in(cells: &[u32], name: usize) -> Named
+pub(crate) fn built_in(cells: &[u32], name: usize) -> Option<BuiltIn>
     requires { (length cells.now ≤ cells_limit) × (name ≤ 8589934592) }
     ensures { result ≡ built_in_named cells.now name }
 {
@@ -46,43 +38,43 @@ pub(crate) fn built_in(cells: &[u32], name: usize) -> Named
             BuiltIn::Arithmetic(Operation::Difference),
         ),
         59 => known(cells, name, b"SIZE", BuiltIn::Size),
-        _ => Named::Unknown,
+        _ => None,
     }
 }
 
 // The built-in, where the name at a length cell is its own.
-fn known(cells: &[u32], name: usize, own: &[u8], built_in: BuiltIn) -> Named
+fn known(cells: &[u32], name: usize, own: &[u8], built_in: BuiltIn) -> Option<BuiltIn>
     requires { name ≤ 8589934592 }
     ensures { result ≡ named_among cells.now name (named own.now built_in ∷ []) }
 {
     let count = memory::read(cells, name) as usize;
     if memory::same_bytes(cells, name + 1, count, own) {
-        return Named::Known(built_in);
+        return Some(built_in);
     }
-    Named::Unknown
+    None
 }
 
-fn of_group_15(cells: &[u32], name: usize) -> Named
+fn of_group_15(cells: &[u32], name: usize) -> Option<BuiltIn>
     requires { name ≤ 8589934592 }
     ensures { result ≡ named_among cells.now name (of_group 15 built_ins) }
 {
     let count = memory::read(cells, name) as usize;
     if memory::same_bytes(cells, name + 1, count, b"DEF") {
-        return Named::Known(BuiltIn::Def);
+        return Some(BuiltIn::Def);
     }
     known(cells, name, b"IF", BuiltIn::If)
 }
 
-fn of_group_41(cells: &[u32], name: usize) -> Named
+fn of_group_41(cells: &[u32], name: usize) -> Option<BuiltIn>
     requires { name ≤ 8589934592 }
     ensures { result ≡ named_among cells.now name (of_group 41 built_ins) }
 {
     let count = memory::read(cells, name) as usize;
     if memory::same_bytes(cells, name + 1, count, b"Quot") {
-        return Named::Known(BuiltIn::Arithmetic(Operation::Quotient));
+        return Some(BuiltIn::Arithmetic(Operation::Quotient));
     }
     if memory::same_bytes(cells, name + 1, count, b"SEQ") {
-        return Named::Known(BuiltIn::Seq);
+        return Some(BuiltIn::Seq);
     }
     known(cells, name, b"LOCK", BuiltIn::Lock)
 }
@@ -101,7 +93,12 @@ pub(crate) fn compare(cells: &[u32], first: usize, second: usize) -> u32
 }
 
 // The operation of a built-in on two arguments.
-pub(crate) fn calculate(operation: Operation, cells: &[u32], first: usize, second: usize) -> Answer
+pub(crate) fn calculate(
+    operation: Operation,
+    cells: &[u32],
+    first: usize,
+    second: usize,
+) -> Result<Decimal, Refusal>
     requires { (first ≤ 8589934592) × (second ≤ 8589934592) }
     ensures { result ≡ calculate operation cells.now first second }
 {
@@ -109,21 +106,18 @@ pub(crate) fn calculate(operation: Operation, cells: &[u32], first: usize, secon
 }
 
 // The operand in the argument at a length cell. An argument that does not lie within the cells is no number.
-fn operand(cells: &[u32], argument: usize) -> Operand
+fn operand(cells: &[u32], argument: usize) -> Option<i32>
     requires { argument ≤ 8589934592 }
-    ensures { result_in result ≡ as_result (operand_at cells.now argument) }
+    ensures { result ≡ operand_at cells.now argument }
 {
-    let count = memory::read(cells, argument) as usize;
     let from = argument + 1;
-    if cells.len() < from + count {
-        return Operand::NoNumber;
+    let end = from + memory::read(cells, argument) as usize;
+    if cells.len() < end {
+        return None;
     }
     let mut reader = Reader::new();
-    let mut taken = 0;
-    while taken < count {
-        let byte = (memory::read(cells, from + taken) % 256) as u8;
-        reader = reader.take(byte);
-        taken += 1;
+    for cell in &cells[from..end] {
+        reader = reader.take((cell % 256) as u8);
     }
     reader.finish()
 }

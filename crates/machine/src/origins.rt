@@ -6,11 +6,12 @@ ghost use Rattle.machine.specs.Origins.{fetches_next, given_by_name, rule, note_
 
 use crate::run::Run;
 use crate::{layout, scan};
-use language::rules;
+use language::rules::Rule;
+use language::signs::Sign;
 
 impl Run {
     // The rule by which the next scan writes, if it does: while a call is open only a built-in gives to the output.
-    pub(crate) fn rule(self, kinds: &[u8; 256], cells: &[u32]) -> u32
+    pub(crate) fn rule(self, kinds: &[u8; 256], cells: &[u32]) -> Rule
         requires { (self.calls.call ≤ nowhere) × (self.source.body ≤ nowhere) × (self.source.offset ≤ 4294967296) }
         ensures { result ≡ rule self kinds.now cells.now }
     {
@@ -18,12 +19,12 @@ impl Run {
             return given_by_name(cells, self.calls.call + layout::ARGUMENTS);
         }
         if self.source.list == Run::NOWHERE {
-            return rules::COPIED_FROM_TEXT;
+            return Rule::CopiedFromText;
         }
         if self.fetches_next(kinds, cells) {
-            rules::FETCHED
+            Rule::Fetched
         } else {
-            rules::COPIED_FROM_BODY
+            Rule::CopiedFromBody
         }
     }
 
@@ -36,7 +37,7 @@ impl Run {
             return false;
         }
         let byte = (self.body_byte(cells) % 256) as u8;
-        scan::kind(kinds, byte) == 4
+        scan::sign_of(kinds, byte) == Sign::Tilde
     }
 
     // What was written since this standing came by this rule.
@@ -44,7 +45,7 @@ impl Run {
         self,
         silent: bool,
         after: Run,
-        rule: u32,
+        rule: Rule,
         origins: &mut [u32],
         rules: &mut [u32],
     )
@@ -58,20 +59,20 @@ impl Run {
         if end > from {
             let count = end - from;
             memory::fill(origins, from, count, layout::cell(after.counts.read));
-            memory::fill(rules, from, count, rule);
+            memory::fill(rules, from, count, u32::from(rule));
         }
     }
 }
 
 // VAL, or another built-in, by the name at a length cell.
-fn given_by_name(cells: &[u32], name: usize) -> u32
+fn given_by_name(cells: &[u32], name: usize) -> Rule
     requires { name ≤ 8589934592 }
     ensures { result ≡ given_by_name cells.now name }
 {
     let count = memory::read(cells, name) as usize;
     if memory::same_bytes(cells, name + 1, count, b"VAL") {
-        rules::GIVEN_BY_VAL
+        Rule::GivenByVal
     } else {
-        rules::GIVEN_BY_BUILT_IN
+        Rule::GivenByBuiltIn
     }
 }

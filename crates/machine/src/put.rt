@@ -5,7 +5,7 @@ ghost use Rattle.language.specs.Expansion.{lent};
 ghost use Rattle.machine.specs.Machine.{Sound, leaves, write, collect, put, write_block, collect_block, copy};
 
 use crate::run::{Run, Stepped};
-use language::outcomes;
+use language::outcomes::Outcome;
 
 impl Run {
     // One byte.
@@ -24,7 +24,7 @@ impl Run {
         ensures { (l : List ℕ) → leaves result (lent l output.new) ≡ write self byte (lent l output.old) }
     {
         if self.counts.written >= output.len() {
-            return self.ends_with(outcomes::NO_OUTPUT_LEFT);
+            return self.ends_with(Outcome::NoOutputLeft);
         }
         memory::write_byte(output, self.counts.written, byte);
         self.wrote(1).goes_on()
@@ -35,7 +35,7 @@ impl Run {
         ensures { (o : List ℕ) → leaves result (lent cells.new o) ≡ collect self byte (lent cells.old o) }
     {
         if self.charge >= cells.len() {
-            return self.ends_with(outcomes::NO_CELLS_LEFT);
+            return self.ends_with(Outcome::NoCellsLeft);
         }
         memory::write(cells, self.calls.left, byte as u32);
         self.collected(1).goes_on()
@@ -63,7 +63,7 @@ impl Run {
         ensures { leaves result (lent cells.now output.new) ≡ write_block self from count (lent cells.now output.old) }
     {
         if output.len() - self.counts.written < count {
-            return self.ends_with(outcomes::NO_OUTPUT_LEFT);
+            return self.ends_with(Outcome::NoOutputLeft);
         }
         memory::copy_to_bytes(cells, from, output, self.counts.written, count);
         self.wrote(count).goes_on()
@@ -74,7 +74,7 @@ impl Run {
         ensures { (o : List ℕ) → leaves result (lent cells.new o) ≡ collect_block self from count (lent cells.old o) }
     {
         if cells.len() - self.charge < count {
-            return self.ends_with(outcomes::NO_CELLS_LEFT);
+            return self.ends_with(Outcome::NoCellsLeft);
         }
         memory::move_block(cells, from, self.calls.left, count);
         self.collected(count).goes_on()

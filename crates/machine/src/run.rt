@@ -6,6 +6,7 @@ ghost use Rattle.machine.specs.Machine.{fresh, charged, collected, wrote};
 ghost use Rattle.machine.specs.Moving.{places_below, is_in_range};
 
 use language::Sizes;
+use language::outcomes::Outcome;
 
 // The calls being collected: where their cells end, the innermost one, and the length cell of its argument in hand.
 #[derive(Clone, Copy)]
@@ -44,12 +45,12 @@ pub struct Run {
     pub charge: usize,
 }
 
-// How a run stands: it goes on, or it ended with an outcome of document 01. Damaged: the cells hold what those of a real run
+// How a run stands: it goes on, or it ended with an outcome of the documents. Damaged: the cells hold what those of a real run
 // never do. Refused: the numbers of the standing are out of range, and nothing is touched.
 #[derive(Clone, Copy)]
 pub enum Answer {
     GoesOn,
-    Ended(u32),
+    Ended(Outcome),
     Damaged,
     Refused,
 }
@@ -101,7 +102,7 @@ impl Run {
         }
     }
 
-    pub(crate) fn ends_with(self, outcome: u32) -> Stepped
+    pub(crate) fn ends_with(self, outcome: Outcome) -> Stepped
         ensures { result ≡ record { run = self; answer = Ended outcome } }
     {
         Stepped {

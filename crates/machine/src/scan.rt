@@ -1,11 +1,13 @@
 // One scan.
-ghost use Rattle.std.specs.Prelude.{◌≡◌, ℕ, ◌+◌, ◌≤◌, ◌<◌, length, get_or, List};
+ghost use Rattle.std.specs.Prelude.{◌≡◌, ℕ, ◌+◌, ◌≤◌, ◌<◌, length, List};
+ghost use Rattle.language.specs.Signs.{sign_of};
 ghost use Rattle.language.specs.Expansion.{lent};
 ghost use Rattle.machine.specs.declared.run.Answer.TheVariants.{GoesOn};
 ghost use Rattle.machine.specs.Walks.{nowhere};
 ghost use Rattle.machine.specs.Machine.{Sound, Ready, last_scan, leaves, leaves_indexed, with_quotes, quotes_after, scan_quoted, scan_sign, scan_byte, next_byte, passed, end_source, step};
 
 use crate::run::{Run, Stepped};
+use language::signs::Sign;
 
 impl Run {
     // One scan takes the standing of the run and gives the next.
@@ -29,7 +31,7 @@ impl Run {
         }
         let byte = (next % 256) as u8;
         run.passed()
-            .scan_byte(kind(kinds, byte), byte, heads, cells, output)
+            .scan_byte(sign_of(kinds, byte), byte, heads, cells, output)
     }
 
     // The next byte of the innermost body, else of the text, or NOWHERE at its end.
@@ -77,49 +79,49 @@ impl Run {
     // Inside quotes only quotes are recognised.
     fn scan_byte(
         self,
-        kind: u8,
+        sign: Sign,
         byte: u8,
         heads: &mut [u32; 64],
         cells: &mut [u32],
         output: &mut [u8],
     ) -> Stepped
         requires { (Sound (length cells.old) self) × (self.counts.written ≤ length output.old) }
-        ensures { leaves_indexed result (lent cells.new output.new) heads.new ≡ scan_byte self kind byte heads.old (lent cells.old output.old) }
+        ensures { leaves_indexed result (lent cells.new output.new) heads.new ≡ scan_byte self sign byte heads.old (lent cells.old output.old) }
     {
         if self.quotes > 0 {
-            return self.scan_quoted(kind, byte, cells, output);
+            return self.scan_quoted(sign, byte, cells, output);
         }
-        self.scan_sign(kind, byte, heads, cells, output)
+        self.scan_sign(sign, byte, heads, cells, output)
     }
 
     fn scan_sign(
         self,
-        kind: u8,
+        sign: Sign,
         byte: u8,
         heads: &mut [u32; 64],
         cells: &mut [u32],
         output: &mut [u8],
     ) -> Stepped
         requires { (Sound (length cells.old) self) × (self.counts.written ≤ length output.old) }
-        ensures { leaves_indexed result (lent cells.new output.new) heads.new ≡ scan_sign self kind byte heads.old (lent cells.old output.old) }
+        ensures { leaves_indexed result (lent cells.new output.new) heads.new ≡ scan_sign self sign byte heads.old (lent cells.old output.old) }
     {
-        match kind {
-            1 => self.open_call(cells),
-            2 => self.separate(byte, cells, output),
-            3 => self.apply(byte, heads, cells, output),
-            4 => self.fetch(byte, cells, output),
-            5 => self.quoted(1),
-            6 => self.unquote(byte, cells, output),
-            _ => self.put(byte, cells, output),
+        match sign {
+            Sign::Plain => self.put(byte, cells, output),
+            Sign::Dollar => self.open_call(cells),
+            Sign::Comma => self.separate(byte, cells, output),
+            Sign::Semicolon => self.apply(byte, heads, cells, output),
+            Sign::Tilde => self.fetch(byte, cells, output),
+            Sign::Quote => self.quoted(1),
+            Sign::Unquote => self.unquote(byte, cells, output),
         }
     }
 
     // The outermost pair is dropped, inner ones are copied.
-    fn scan_quoted(self, kind: u8, byte: u8, cells: &mut [u32], output: &mut [u8]) -> Stepped
+    fn scan_quoted(self, sign: Sign, byte: u8, cells: &mut [u32], output: &mut [u8]) -> Stepped
         requires { (Sound (length cells.old) self) × (self.counts.written ≤ length output.old) × (0 < self.quotes) }
-        ensures { leaves result (lent cells.new output.new) ≡ scan_quoted self kind byte (lent cells.old output.old) }
+        ensures { leaves result (lent cells.new output.new) ≡ scan_quoted self sign byte (lent cells.old output.old) }
     {
-        let depth = quotes_after(self.quotes, kind);
+        let depth = quotes_after(self.quotes, sign);
         if depth == 0 {
             return self.quoted(0);
         }
@@ -137,21 +139,19 @@ impl Run {
 }
 
 // The depth of quotes after a byte inside quotes.
-fn quotes_after(quotes: usize, kind: u8) -> usize
+fn quotes_after(quotes: usize, sign: Sign) -> usize
     requires { (0 < quotes) × (quotes < 18446744073709551615) }
-    ensures { result ≡ quotes_after quotes kind }
+    ensures { result ≡ quotes_after quotes sign }
 {
-    if kind == 5 {
-        return quotes + 1;
+    match sign {
+        Sign::Quote => quotes + 1,
+        Sign::Unquote => quotes - 1,
+        _ => quotes,
     }
-    if kind == 6 {
-        return quotes - 1;
-    }
-    quotes
 }
 
-pub(crate) fn kind(kinds: &[u8; 256], byte: u8) -> u8
-    ensures { result ≡ get_or kinds.now byte 0 }
+pub(crate) fn sign_of(kinds: &[u8; 256], byte: u8) -> Sign
+    ensures { result ≡ sign_of kinds.now byte }
 {
-    kinds[byte as usize]
+    Sign::from(kinds[usize::from(byte)])
 }

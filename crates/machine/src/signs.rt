@@ -7,7 +7,7 @@ ghost use Rattle.machine.specs.Machine.{Sound, leaves, leaves_indexed, Shifted, 
 
 use crate::run::{Run, Source, Stepped};
 use crate::{index, layout, lookup};
-use language::outcomes;
+use language::outcomes::Outcome;
 
 impl Run {
     // `$` opens a call with an empty name.
@@ -16,7 +16,7 @@ impl Run {
         ensures { (o : List ℕ) → leaves result (lent cells.new o) ≡ open_call self (lent cells.old o) }
     {
         if cells.len() - self.charge < layout::OPEN_SIZE {
-            return self.ends_with(outcomes::NO_CELLS_LEFT);
+            return self.ends_with(Outcome::NoCellsLeft);
         }
         let at = self.calls.left;
         self.open_at(at, cells);
@@ -55,7 +55,7 @@ impl Run {
         ensures { (o : List ℕ) → leaves result (lent cells.new o) ≡ end_by_comma self (lent cells.old o) }
     {
         if self.charge >= cells.len() {
-            return self.ends_with(outcomes::NO_CELLS_LEFT);
+            return self.ends_with(Outcome::NoCellsLeft);
         }
         self.end_argument(cells);
         let mut run = self.collected(1);
@@ -99,7 +99,7 @@ impl Run {
         if self.calls.call == Run::NOWHERE {
             return self.write(byte, output);
         }
-        self.ends_with(outcomes::PARAMETER_IN_TEXT)
+        self.ends_with(Outcome::ParameterInText)
     }
 
     // The parameter whose length cell is at a position.
@@ -108,7 +108,7 @@ impl Run {
         ensures { leaves result (lent cells.new output.new) ≡ fetch_argument self position (lent cells.old output.old) }
     {
         if position == Run::NOWHERE {
-            return self.ends_with(outcomes::NOT_SUPPLIED);
+            return self.ends_with(Outcome::NotSupplied);
         }
         let count = memory::read(cells, position) as usize;
         let mut run = self;
@@ -122,7 +122,7 @@ impl Run {
         ensures { leaves result (lent cells.new output.new) ≡ fetch_number self number (lent cells.old output.old) }
     {
         if number == Run::NOWHERE {
-            return self.ends_with(outcomes::FETCHES_NOTHING);
+            return self.ends_with(Outcome::FetchesNothing);
         }
         let position = lookup::argument(cells, self.source.list + layout::ARGUMENTS, number);
         self.fetch_argument(position, cells, output)
@@ -135,7 +135,7 @@ impl Run {
     {
         let byte = self.body_byte(cells);
         if byte == Run::NOWHERE {
-            return self.ends_with(outcomes::FETCHES_NOTHING);
+            return self.ends_with(Outcome::FetchesNothing);
         }
         self.fetch_number(parameter_number(byte), cells, output)
     }
@@ -159,21 +159,21 @@ impl Run {
             return self.put(byte, cells, output);
         }
         if self.calls.call == Run::NOWHERE {
-            return self.ends_with(outcomes::FINISHED_AT_QUOTE);
+            return self.ends_with(Outcome::FinishedAtQuote);
         }
-        self.ends_with(outcomes::QUOTE_IN_CALL)
+        self.ends_with(Outcome::QuoteInCall)
     }
 
     pub(crate) fn end_text(self) -> Stepped
         ensures { (l o : List ℕ) → leaves result (lent l o) ≡ end_text self (lent l o) }
     {
         if self.quotes > 0 {
-            return self.ends_with(outcomes::TEXT_IN_QUOTES);
+            return self.ends_with(Outcome::TextInQuotes);
         }
         if self.calls.call == Run::NOWHERE {
-            return self.ends_with(outcomes::FINISHED);
+            return self.ends_with(Outcome::Finished);
         }
-        self.ends_with(outcomes::TEXT_IN_CALL)
+        self.ends_with(Outcome::TextInCall)
     }
 
     // Whether the innermost open call was begun in the body, or in the text, being read.
@@ -195,7 +195,7 @@ impl Run {
         ensures { (o : List ℕ) → leaves_indexed result (lent cells.new o) heads.new ≡ end_body self heads.old (lent cells.old o) }
     {
         if self.own_call(cells) {
-            return self.ends_with(outcomes::BODY_IN_CALL);
+            return self.ends_with(Outcome::BodyInCall);
         }
         let list = self.source.list;
         let to = layout::right_before(cells, list) as usize;
