@@ -121,7 +121,7 @@ pub fn same_bytes(cells: &[u32], from: usize, count: usize, bytes: &[u8]) -> boo
         && all_agree(&cells[from..from + count], bytes)
 }
 
-// Whether the cells are the same as as many bytes.
+// Whether each cell is the byte at its place.
 fn all_agree(cells: &[u32], bytes: &[u8]) -> bool
     requires { length cells.now ≡ length bytes.now }
     ensures { result ≡ same cells.now bytes.now }
