@@ -120,7 +120,7 @@ module _ (T : Table) (text : Bytes) (n k : ℕ) where
       let inside : st.answer ≡ GoesOn → InRange (length m₀.cells) (length m₀.output) st.run = λ q. rw (c, o) (ranged q) in
       (record { answered = told; ranged = inside; moves = moving T text due₀ r₀ h₀ m₀ st h' m' is (cs ∙ sym c) (os ∙ sym o) inside }, is)
 
-  module _ {r₀ r : Run} {h₀ h : List ℕ} {m₀ m : Lent} {due₀ until : ℕ} (g : Going r₀ h₀ m₀ due₀ r h m until) (Some : r.counts.scans < until)
+  module _ {r₀ r : Run} {h₀ h : List ℕ} {m₀ m : Lent} {due₀ until : ℕ} (g : Going r₀ h₀ m₀ due₀ r h m until) (some : r.counts.scans < until)
       (a : M.Indexed) (e : a ≡ M.step r T text h m) (cs : length a.after.lent.cells ≡ n) (os : length a.after.lent.output ≡ k) where
     kept : Kept n k (r.counts.scans + 1) a.after
     kept =
@@ -171,7 +171,7 @@ module _ (T : Table) (text : Bytes) (n k : ℕ) where
   -- a scan can be made
   pub ready_of : {r₀ r : Run} {h₀ h : List ℕ} {m₀ m : Lent} {due₀ until : ℕ} → Going r₀ h₀ m₀ due₀ r h m until → r.counts.scans < until
       → Ready (length m.cells) r × (r.counts.scans < last_scan) × (r.counts.written ≤ length m.output)
-  ready_of {r = r} g Some =
+  ready_of {r = r} g some =
       let i = g.in_range in
       (subst (λ (j : ℕ). Ready j r) (sym g.cells) i.ready, omega (arith, g.counted), omega (arith, i.written, g.output))
 
@@ -181,8 +181,8 @@ module _ (T : Table) (text : Bytes) (n k : ℕ) where
       × (GoesOn ≡ GoesOn → r.counts.scans ≡ r₀.counts.scans + due₀)
   unfolding M.steps
   done {r = r} {h = h} {m = m} {due₀ = due₀} {until} g over c o =
-      let None : until - r.counts.scans ≡ 0 = omega arith in
-      let (is₁, is₂) = advances (sym (g.made ∙ ap (λ (j : ℕ). M.steps j T text (M.keeping h (M.goes r m))) None)) c o g.cells g.output
+      let none : until - r.counts.scans ≡ 0 = omega arith in
+      let (is₁, is₂) = advances (sym (g.made ∙ ap (λ (j : ℕ). M.steps j T text (M.keeping h (M.goes r m))) none)) c o g.cells g.output
       (λ q. let z : ◌≡◌ {A = ℕ} 0 1 = cc in omega arith) (λ q. g.in_range) in
       (is₁, is₂, λ q. omega (arith, g.not_past, g.all))
 
@@ -221,5 +221,5 @@ module _ (T : Table) (text : Bytes) (n k : ℕ) where
   -- a number of scans that is due
   pub several_ready : {r₀ r : Run} {h₀ h : List ℕ} {m₀ m : Lent} {due₀ until : ℕ} → Going r₀ h₀ m₀ due₀ r h m until → (p : ℕ) → p ≤ until - r.counts.scans → r.counts.scans < until
       → InRange (length m.cells) (length m.output) r × (r.counts.scans + p ≤ last_scan)
-  several_ready {r = r} {m = m} g p few Some =
+  several_ready {r = r} {m = m} g p few some =
       (subst (λ (j : ℕ). InRange (length m.cells) j r) (sym g.output) (subst (λ (j : ℕ). InRange j k r) (sym g.cells) g.in_range), omega (arith, g.counted))

@@ -33,6 +33,8 @@ use Rattle.machine.specs.Frames.{Places, address, items, places, calls}
 use Rattle.machine.specs.Index.{Index}
 use Rattle.machine.specs.Held.{Shows, Represents}
 use Rattle.machine.proofs.Lists.{overwrite}
+use Rattle.language.specs.Outcomes.{number_of}
+use Rattle.language.specs.declared.outcomes.Outcome.{Outcome}
 use Rattle.language.specs.declared.outcomes.Outcome.TheVariants.{NoCellsLeft, NoOutputLeft}
 
 abbrev pub mostly : ℕ → State → State
@@ -99,8 +101,8 @@ module _ {n : ℕ} {older : List Definition} {heads whole start : List ℕ} {r :
       (rw made.0 a.lies)
 
   -- an outcome with nothing changed
-  pub refused : (k : ℕ) → Simulates n older heads whole start (M.ends k r (lent l o)) (S.ends k s)
-  refused k = stops (record { answer = refl; shows = applied_shown })
+  pub refused : (outcome : Outcome) → Simulates n older heads whole start (M.ends outcome r (lent l o)) (S.ends (number_of outcome) s)
+  refused outcome = stops (record { answer = refl; shows = applied_shown })
 
   -- the list gone and nothing in its place
   pub gone : {heads' : List ℕ} → Index n U heads' → Represents n older heads' whole start (M.released r 0 (address n U) links (count a.since)) (lent l o)

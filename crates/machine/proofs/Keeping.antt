@@ -10,15 +10,17 @@ use borrow.Author.Rules.{rules}
 use borrow.Author.Tests.{ltb-false, leb-false, eqb-false}
 use Rattle.language.specs.declared.built_ins.BuiltIn.{BuiltIn}
 use Rattle.language.specs.declared.built_ins.BuiltIn.TheVariants.{Def, Val, Update, Arithmetic, Seq, Size, If, Lock}
-use Rattle.language.specs.Signs.{cells_limit}
+use Rattle.language.specs.Signs.{cells_limit, sign_of}
 use Rattle.language.specs.Outcomes
 use Rattle.language.specs.BuiltIns as B
 use Rattle.language.specs.Charge.{open_price}
 use Rattle.language.specs.Expansion.{Lent}
-use Rattle.decimal.specs.declared.operations.Answer as Arithmetical
+use Rattle.std.specs.Prelude.{Option, None, Some, Result, Ok, Err}
+use Rattle.decimal.specs.declared.operations.Refusal.{Refusal}
 use Rattle.decimal.specs.Shortest.{digits}
-use Rattle.machine.specs.declared.operands.Named.{Named}
-use Rattle.machine.specs.declared.operands.Named.TheVariants.{Known, Unknown}
+use Rattle.language.specs.declared.outcomes.Outcome.{Outcome}
+use Rattle.language.specs.declared.signs.Sign.{Sign}
+use Rattle.language.specs.declared.signs.Sign.TheVariants.{Plain, Dollar, Comma, Semicolon, Tilde, Quote, Unquote}
 use Rattle.machine.specs.declared.run.Run.{Run}
 use Rattle.machine.specs.declared.run.Answer.{Answer}
 use Rattle.machine.specs.declared.run.Answer.TheVariants.{GoesOn, Ended, Damaged, Refused}
@@ -39,7 +41,7 @@ record KeptIn (n k made : ℕ) (x : M.Indexed) : Type 0 where
   is : Kept n k made x.after
 
 module _ {n k made : ℕ} where
-  ends : {c : ℕ} {r : Run} {m : Lent} → Kept n k made (M.ends c r m)
+  ends : {c : Outcome} {r : Run} {m : Lent} → Kept n k made (M.ends c r m)
   ends = record { kept = λ e. let z : ◌≡◌ {A = ℕ} 0 1 = cc in absurd (omega arith); counted = λ e. let z : ◌≡◌ {A = ℕ} 0 1 = cc in absurd (omega arith); told = λ e. let z : ◌≡◌ {A = ℕ} 0 1 = cc in omega arith }
 
   damaged : {r : Run} {m : Lent} → Kept n k made (M.damaged r m)
@@ -57,7 +59,7 @@ module _ {n k made : ℕ} where
   choose_in true x y = x refl
   choose_in false x y = y refl
 
-  ends_in : {c : ℕ} {r : Run} {h : List ℕ} {m : Lent} → KeptIn n k made (M.keeping h (M.ends c r m))
+  ends_in : {c : Outcome} {r : Run} {h : List ℕ} {m : Lent} → KeptIn n k made (M.keeping h (M.ends c r m))
   ends_in = record { is = ends }
 
   damaged_in : {r : Run} {h : List ℕ} {m : Lent} → KeptIn n k made (M.keeping h (M.damaged r m))
@@ -205,9 +207,9 @@ module _ (m : Lent) where
       refuse_kept : (name : ℕ) → Kept n k r.counts.scans (M.refuse_name r name m)
       refuse_kept name = go (built_in_named l name)
         where
-          go : (x : Named) → Kept n k r.counts.scans (M.refuse_named x r m)
-          go Unknown = ends
-          go (Known b) = ends
+          go : (x : Option BuiltIn) → Kept n k r.counts.scans (M.refuse_named x r m)
+          go None = ends
+          go (Some b) = ends
 
       val_kept : (name : ℕ) → Kept n k r.counts.scans (M.val r name h m)
       val_kept name =
@@ -229,8 +231,9 @@ module _ (m : Lent) where
       lock_kept : (name : ℕ) → Kept n k r.counts.scans (M.lock r name h m)
       lock_kept name = choose (eqb (newest l h name) nowhere) (λ t. refuse_kept name) (λ t. altered_kept)
 
-      answer_kept : (a : Arithmetical.Answer) → Kept n k r.counts.scans (M.give_answer r a m)
-      answer_kept a = choose (eqb a.outcome Outcomes.finished) (λ t. placing_kept _ _ (give_kept a.decimal.len)) (λ t. ends)
+      answer_kept : (x : Result (List ℕ) Refusal) → Kept n k r.counts.scans (M.give_answer r x m)
+      answer_kept (Ok t) = placing_kept _ _ (give_kept (length t))
+      answer_kept (Err refusal) = ends
 
       count_kept : (count : ℕ) → Kept n k r.counts.scans (M.give_count r count m)
       count_kept count = placing_kept _ _ (give_kept (length (digits count)))
@@ -259,9 +262,9 @@ module _ (m : Lent) where
       built_in_kept : (name : ℕ) → KeptIn n k r.counts.scans (M.apply_built_in r name h m)
       built_in_kept name = go (built_in_named l name)
         where
-          go : (x : Named) → KeptIn n k r.counts.scans (M.apply_named r x name h m)
-          go Unknown = ends_in
-          go (Known b) = choose_in (eqb (argument l name (B.needs b)) nowhere) (λ t. ends_in) (λ t. perform_kept b name)
+          go : (x : Option BuiltIn) → KeptIn n k r.counts.scans (M.apply_named r x name h m)
+          go None = ends_in
+          go (Some b) = choose_in (eqb (argument l name (B.needs b)) nowhere) (λ t. ends_in) (λ t. perform_kept b name)
 
       -- the body of a definition that was found
       read_kept : (d : ℕ) → d ≤ 65535 → Kept n k r.counts.scans (M.read_body r d m)
@@ -332,31 +335,32 @@ module _ (m : Lent) (h : List ℕ) (small : (i : ℕ) → get_or m.cells i 0 < 4
     calmed : Ready cells r
     calmed = search rules
 
-    sign_kept : (kind b : ℕ) → KeptIn cells room' r.counts.scans (M.scan_sign r kind b h m)
-    sign_kept kind b =
-        choose_in (eqb kind 1) (λ t. record { is = open_kept m r calmed w })
-        (λ t. choose_in (eqb kind 2) (λ t. record { is = separate_kept m r calmed w b })
-        (λ t. choose_in (eqb kind 3) (λ t. apply_kept r calmed w b)
-        (λ t. choose_in (eqb kind 4) (λ t. record { is = fetch_kept m small r calmed w b })
-        (λ t. choose_in (eqb kind 5) (λ t. record { is = goes (search rules) w refl })
-        (λ t. choose_in (eqb kind 6) (λ t. record { is = unquote_kept m r calmed w b }) (λ t. record { is = put_kept m r calmed w b }))))))
+    sign_kept : (sign : Sign) (b : ℕ) → KeptIn cells room' r.counts.scans (M.scan_sign r sign b h m)
+    sign_kept Plain b = record { is = put_kept m r calmed w b }
+    sign_kept Dollar b = record { is = open_kept m r calmed w }
+    sign_kept Comma b = record { is = separate_kept m r calmed w b }
+    sign_kept Semicolon b = apply_kept r calmed w b
+    sign_kept Tilde b = record { is = fetch_kept m small r calmed w b }
+    sign_kept Quote b = record { is = goes (search rules) w refl }
+    sign_kept Unquote b = record { is = unquote_kept m r calmed w b }
 
-    after : (kind : ℕ) → M.quotes_after r.quotes kind ≤ r.counts.scans
-    after kind = go (eqb kind 5) (eqb kind 6)
-      where
-        go : (x y : Bool) → cond x (r.quotes + 1) (cond y (r.quotes - 1) r.quotes) ≤ r.counts.scans
-        go true y = omega (arith, s.quotes_below)
-        go false true = omega (arith, s.quotes_below)
-        go false false = omega (arith, s.quotes_below)
+    after : (sign : Sign) → M.quotes_after r.quotes sign ≤ r.counts.scans
+    after Plain = omega (arith, s.quotes_below)
+    after Dollar = omega (arith, s.quotes_below)
+    after Comma = omega (arith, s.quotes_below)
+    after Semicolon = omega (arith, s.quotes_below)
+    after Tilde = omega (arith, s.quotes_below)
+    after Quote = omega (arith, s.quotes_below)
+    after Unquote = omega (arith, s.quotes_below)
 
-    byte_kept : (kind b : ℕ) → KeptIn cells room' r.counts.scans (M.scan_byte r kind b h m)
-    byte_kept kind b =
+    byte_kept : (sign : Sign) (b : ℕ) → KeptIn cells room' r.counts.scans (M.scan_byte r sign b h m)
+    byte_kept sign b =
         choose_in (ltb 0 r.quotes)
         (λ t. record {
-          is = choose (eqb (M.quotes_after r.quotes kind) 0) (λ t. goes (search rules) w refl)
-              (λ t. let q = after kind in put_kept m (M.with_quotes (M.quotes_after r.quotes kind) r) (search rules) w b);
+          is = choose (eqb (M.quotes_after r.quotes sign) 0) (λ t. goes (search rules) w refl)
+              (λ t. let q = after sign in put_kept m (M.with_quotes (M.quotes_after r.quotes sign) r) (search rules) w b);
         })
-        (λ t. sign_kept kind b)
+        (λ t. sign_kept sign b)
 
   -- Whatever the cells hold, a scan that goes on leaves the numbers in range.
   step_kept_in : (r : Run) (kinds text : List ℕ) → InRange cells room' r → KeptIn cells room' (r.counts.scans + 1) (M.step r kinds text h m)
@@ -369,13 +373,13 @@ module _ (m : Lent) (h : List ℕ) (small : (i : ℕ) → get_or m.cells i 0 < 4
       (λ t. choose_in (leb (length text) r.counts.read) (λ t. record { is = end_text_kept m r₁ (search rules) w })
       (λ t.
       let b = get_or text r.counts.read 0 in
-      byte_kept (M.with_read (r.counts.read + 1) r₁) (search rules) w (get_or kinds b 0) b))
+      byte_kept (M.with_read (r.counts.read + 1) r₁) (search rules) w (sign_of kinds b) b))
       (λ t. choose_in (eqb (M.body_byte r₁ m.cells) nowhere) (λ t. end_body_kept m small r₁ (search rules) w h)
       (λ t.
       let q = inside r₁ m.cells refl (eqb-false (M.body_byte r₁ m.cells) nowhere t) in
       let q₂ = small (r.source.body + 3) in
       let b = M.body_byte r₁ m.cells in
-      byte_kept (M.with_offset (r.source.offset + 1) r₁) (search rules) w (get_or kinds b 0) b))
+      byte_kept (M.with_offset (r.source.offset + 1) r₁) (search rules) w (sign_of kinds b) b))
 
   pub step_kept : (r : Run) (kinds text : List ℕ) → InRange cells room' r → Kept cells room' (r.counts.scans + 1) (M.step r kinds text h m).after
   step_kept r kinds text f = (step_kept_in r kinds text f).is

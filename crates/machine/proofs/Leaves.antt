@@ -12,14 +12,13 @@ use borrow.Enum.Refused.{Among, opened}
 use types.Run.{OneOf}
 use denote.Enum.Declared.{tag_of}
 use Rattle.decimal.specs.declared.operations.Operation.{Operation}
-use Rattle.decimal.specs.declared.operations.Answer as Arithmetical
+use Rattle.std.specs.Prelude.{Option, None, Some, Result, Ok, Err}
+use Rattle.decimal.specs.declared.operations.Refusal.{Refusal}
 use Rattle.language.specs.declared.built_ins.BuiltIn.{BuiltIn}
 use Rattle.language.specs.declared.built_ins.BuiltIn.TheVariants.{Def, Val, Update, Arithmetic, Seq, Size, If, Lock}
 use Rattle.language.specs.Outcomes
 use Rattle.language.specs.BuiltIns.{needs}
 use Rattle.language.specs.Expansion.{Lent, lent}
-use Rattle.machine.specs.declared.operands.Named.{Named}
-use Rattle.machine.specs.declared.operands.Named.TheVariants.{Known, Unknown}
 use Rattle.machine.specs.declared.run.Run.{Run}
 use Rattle.machine.specs.declared.run.Answer.{Answer}
 use Rattle.machine.specs.declared.run.Answer.TheVariants.{GoesOn, Ended, Damaged, Refused}
@@ -76,7 +75,7 @@ pub not_valued : (r : Run) (name : ℕ) (h : List ℕ) (m : Lent) {a : After} {d
 not_valued r name h m e z n = n ∙ rw (← e, eq-eqb _ _ z)
 
 -- an arithmetic built-in gives what it comes to on its arguments
-pub calculates : (r : Run) (name : ℕ) (h : List ℕ) (m : Lent) {b : BuiltIn} {op : Operation} {first second : ℕ} {x : Arithmetical.Answer} → b ≡ Arithmetic op
+pub calculates : (r : Run) (name : ℕ) (h : List ℕ) (m : Lent) {b : BuiltIn} {op : Operation} {first second : ℕ} {x : Result (List ℕ) Refusal} → b ≡ Arithmetic op
     → first ≡ argument m.cells name 1 → second ≡ argument m.cells name 2 → x ≡ calculate op m.cells first second
     → unindexed r h (give_answer r x m) ≡ perform r b name h m
 calculates r name h m e f s c = rw (e, c, f, s)
@@ -193,9 +192,9 @@ module _ (r : Run) (m : Lent) (inside : r.right ≤ 65536) (size : length m.cell
           (either (ltb (length m.cells - r.charge) count) (record { right = inside }) (release-within (charged count r) count refl))
 
   -- a name that was refused
-  refuse_within : (x : Named) → Within (refuse_named x r m)
-  refuse_within Unknown = record { right = inside }
-  refuse_within (Known b) = record { right = inside }
+  refuse_within : (x : Option BuiltIn) → Within (refuse_named x r m)
+  refuse_within None = record { right = inside }
+  refuse_within (Some b) = record { right = inside }
 
   -- and the built-ins
   pub release_right : (release r 0 m).run.right ≤ 65536
@@ -212,8 +211,9 @@ module _ (r : Run) (m : Lent) (inside : r.right ≤ 65536) (size : length m.cell
       (either (is_read m.cells r.source.list r.source.body d) (record { right = inside })
       (either (ltb (room m.cells d) (get_or m.cells value 0)) (record { right = inside }) (record { right = release_right }))))).right
 
-  pub answer_right : (x : Arithmetical.Answer) → (give_answer r x m).run.right ≤ 65536
-  answer_right x = (either (eqb x.outcome Outcomes.finished) (give-within _ _) (record { right = inside })).right
+  pub answer_right : (x : Result (List ℕ) Refusal) → (give_answer r x m).run.right ≤ 65536
+  answer_right (Ok t) = (give-within _ _).right
+  answer_right (Err refusal) = inside
 
   pub count_right : (count : ℕ) → (give_count r count m).run.right ≤ 65536
   count_right count = (give-within _ _).right

@@ -13,7 +13,7 @@ use Rattle.memory.specs.Block.{block, same}
 use Rattle.memory.proofs.Blocks.{same_bytes_in}
 use Rattle.decimal.specs.declared.operations.Operation.{Operation}
 use Rattle.decimal.specs.Operand.{operand, in_range}
-use Rattle.decimal.specs.Arithmetic.{Result, number, refused, divides, is_zero, exact, of_operands, calculated}
+use Rattle.decimal.specs.Arithmetic.{divides, is_zero, exact, of_operands, calculated}
 use Rattle.decimal.specs.Answers.{answer_of}
 use Rattle.language.specs.declared.built_ins.BuiltIn.{BuiltIn}
 use Rattle.language.specs.Signs.{Bytes}
@@ -27,8 +27,6 @@ use Rattle.language.specs.Charge.{arguments_price}
 use Rattle.language.proofs.Lists.{either}
 use Rattle.language.specs.Octets.{Octets}
 use Rattle.machine.specs.Walks.{named_as, named_among, built_in_named, operand_at, calculate}
-use Rattle.machine.specs.declared.operands.Named.{Named}
-use Rattle.machine.specs.declared.operands.Named.TheVariants.{Unknown}
 use Rattle.machine.proofs.Finds.{ArgumentAt}
 use Rattle.machine.proofs.Fetching.{block-low}
 
@@ -45,8 +43,8 @@ pub argument_text : {l : List ℕ} {p k q : ℕ} {args : List Bytes} → Argumen
 argument_text x h = record { counted = x.counted; bytes = x.bytes; within = omega (arith, x.within) }
 
 -- what the code has for what was found
-abbrev pub named_of : Found → Named
-named_of missing = Unknown
+abbrev pub named_of : Found → Option BuiltIn
+named_of missing = None
 named_of (found k c) = named_as c
 
 -- which is a matter of the content
@@ -95,18 +93,6 @@ unfolding newest live
 own_of t [] e = unknown
 own_of t (d ∷ ds) e = either Own (D.same t d.name) (content_own (length ds) d.content (omega arith)) (own_of t ds (omega arith))
 
--- Answers ------------------------------------------------------------------------------------------------------------
-
--- a refusal does not finish
-abbrev Fails : Result → Type 0
-Fails (number z) = Unit {0}
-Fails (refused k) = eqb k Outcomes.finished ≡ false
-
-refusal_fails : (op : Operation) (a b : Option ℤ) → Fails (of_operands op a b)
-refusal_fails op None b = refl
-refusal_fails op (Some a) None = refl
-refusal_fails op (Some a) (Some b) = either Fails (divides op && is_zero b) refl (either Fails (in_range (exact op a b)) tt refl)
-
 -- The results --------------------------------------------------------------------------------------------------------
 
 -- of the built-ins only a built-in is found
@@ -128,7 +114,3 @@ pub calculate_is : (op : Operation) {l : List ℕ} {first second : ℕ} {t₁ t�
     → TextAt l first t₁ → Octets t₁ → TextAt l second t₂ → Octets t₂
     → calculate op l first second ≡ answer_of (calculated op t₁ t₂)
 calculate_is op h₁ o₁ h₂ o₂ = rw (operand_at_is h₁ o₁, operand_at_is h₂ o₂)
-
--- the outcome of a refusal is not that of a run that finishes
-pub answer_refused : (op : Operation) (t₁ t₂ : Bytes) {k : ℕ} → calculated op t₁ t₂ ≡ refused k → eqb k Outcomes.finished ≡ false
-answer_refused op t₁ t₂ e = rw e at (refusal_fails op (operand t₁) (operand t₂))

@@ -25,6 +25,8 @@ use Rattle.machine.specs.Walks.{cell}
 use Rattle.machine.specs.Machine.{Indexed, goes, keeping, step, steps}
 use Rattle.machine.specs.Held.{Represents}
 use Rattle.machine.specs.Moving.{Holds}
+use Rattle.language.specs.declared.rules.Rule.{Rule}
+use Rattle.language.specs.Origins.{rule_number}
 use Rattle.machine.specs.Origins.{noted_from, Noted, rule, note, note_unless, at_once}
 use Rattle.machine.proofs.Lists.{cell_is}
 use Rattle.machine.proofs.Represents.{SimulatesIndexed, goes as simulates, stops, output_size}
@@ -71,18 +73,18 @@ same_each f read by v h [] = refl
 same_each f read by v h (b ∷ bs) = rw (h b, same_each f read by v h bs)
 
 -- what one scan adds to both runs of numbers
-record Own (k : ℕ) (w : Option Writes) (s : State) : Type 0 where
+record Own (k : Rule) (w : Option Writes) (s : State) : Type 0 where
   pub count : length (scan_origins w (next s)) ≡ length (bytes_in w)
   pub reads : reads_of (scan_origins w (next s)) ≡ repeated (length (bytes_in w)) s.standing.read
-  pub rules : rules_of (scan_origins w (next s)) ≡ repeated (length (bytes_in w)) k
+  pub rules : rules_of (scan_origins w (next s)) ≡ repeated (length (bytes_in w)) (rule_number k)
 
-own : (k : ℕ) (w : Option Writes) (s : State) → RuleIs k w → Own k w s
+own : (k : Rule) (w : Option Writes) (s : State) → RuleIs k w → Own k w s
 unfolding repeated
 own k None s h = record { count = refl; reads = refl; rules = refl }
 own k (Some w) s h = record {
   count = length-map w.bytes _;
   reads = same_each (λ (o : Origin). o.read) s.standing.read w.rule s.standing.read (λ b. refl) w.bytes;
-  rules = same_each (λ (o : Origin). o.rule) s.standing.read w.rule k (λ b. h) w.bytes;
+  rules = same_each (λ (o : Origin). o.rule) s.standing.read w.rule (rule_number k) (λ b. h) w.bytes;
 }
 
 -- The loop -----------------------------------------------------------------------------------------------------------
@@ -108,7 +110,7 @@ module _ (T : Table) (text first : Bytes) (n : ℕ) where
     pub rules : length first ≤ length ns₀.rules
 
   module _ {due₀ : ℕ} {s₀ : State} {written₀ : ℕ} {ns₀ : Numbers} {r : Run} {ix : List ℕ} {m : Lent} {ns : Numbers} {until : ℕ}
-      (x : Tracing due₀ s₀ written₀ ns₀ r ix m ns until) (Some : r.counts.scans < until) (a : Indexed) (e : a ≡ step r T text ix m) where
+      (x : Tracing due₀ s₀ written₀ ns₀ r ix m ns until) (some : r.counts.scans < until) (a : Indexed) (e : a ≡ step r T text ix m) where
     abbrev s : State
     s = x.state
 
@@ -146,9 +148,9 @@ module _ (T : Table) (text first : Bytes) (n : ℕ) where
             let read : cell a.after.run.counts.read ≡ s₁.standing.read = ap cell h.lies.read ∙ cell_is s₁.standing.read (omega arith) in
             let reads : reads_of os ≡ repeated (a.after.run.counts.written - r.counts.written) (cell a.after.run.counts.read) =
             mine.reads ∙ ap (λ (c : ℕ). repeated c s₁.standing.read) (sym count) ∙ ap (repeated (a.after.run.counts.written - r.counts.written)) (sym read) in
-            let rules : rules_of os ≡ repeated (a.after.run.counts.written - r.counts.written) k = mine.rules ∙ ap (λ (c : ℕ). repeated c k) (sym count) in
+            let rules : rules_of os ≡ repeated (a.after.run.counts.written - r.counts.written) (rule_number k) = mine.rules ∙ ap (λ (c : ℕ). repeated c (rule_number k)) (sym count) in
             let first' = column (λ (o : Origin). o.read) written₀ x.done os r.counts.written (a.after.run.counts.written - r.counts.written) (cell a.after.run.counts.read) ns₀.origins x.wrote (omega (arith, x.origins)) reads in
-            let second = column (λ (o : Origin). o.rule) written₀ x.done os r.counts.written (a.after.run.counts.written - r.counts.written) k ns₀.rules x.wrote (omega (arith, x.rules)) rules in
+            let second = column (λ (o : Origin). o.rule) written₀ x.done os r.counts.written (a.after.run.counts.written - r.counts.written) (rule_number k) ns₀.rules x.wrote (omega (arith, x.rules)) rules in
             record {
               state = s₁;
               represents = h;
@@ -162,7 +164,7 @@ module _ (T : Table) (text first : Bytes) (n : ℕ) where
               wrote = omega (arith, length-append x.done os, mine.count, x.wrote);
               numbers =
                   ap (note r a.after.run k) x.numbers
-                  ∙ ap (λ (y : List ℕ). numbers y (filled r.counts.written (a.after.run.counts.written - r.counts.written) k (placed written₀ (rules_of x.done) ns₀.rules))) first'
+                  ∙ ap (λ (y : List ℕ). numbers y (filled r.counts.written (a.after.run.counts.written - r.counts.written) (rule_number k) (placed written₀ (rules_of x.done) ns₀.rules))) first'
                   ∙ ap (numbers (placed written₀ (reads_of (x.done ++ os)) ns₀.origins)) second;
               counted = counted;
               origins = x.origins;
@@ -175,13 +177,13 @@ module _ (T : Table) (text first : Bytes) (n : ℕ) where
       where
         go : (t : Step) → scan L G s ≡ t → SimulatesIndexed n built_ins text first a t → ns ≡ noted_from written₀ (origins_from L G due₀ (next s₀)) ns₀
         go (stop y) q (stops h) =
-            let None : origins_from L G due₀ (next s₀) ≡ x.done =
+            let none : origins_from L G due₀ (next s₀) ≡ x.done =
             due
             ∙ ap (λ (t : Step). x.done ++ (scan_origins (writes G s) t ++ origins_from L G (until - (r.counts.scans + 1)) t)) q
             ∙ ap (λ (os : List Origin). x.done ++ (os ++ origins_from L G (until - (r.counts.scans + 1)) (stop y))) (none_at_end L G (writes G s) y)
             ∙ ap (λ (os : List Origin). x.done ++ os) (origins_stop L G (until - (r.counts.scans + 1)) y)
             ∙ append-nil x.done in
-            x.numbers ∙ ap (λ (os : List Origin). noted_from written₀ os ns₀) (sym None)
+            x.numbers ∙ ap (λ (os : List Origin). noted_from written₀ os ns₀) (sym none)
         go (next s₁) q (simulates g h) = absurd (out g)
 
   -- before the first scan nothing is noted
@@ -209,8 +211,8 @@ module _ (T : Table) (text first : Bytes) (n : ℕ) where
       → Tracing due₀ s₀ written₀ ns₀ r ix m ns until → until ≤ r.counts.scans → ns ≡ noted_from written₀ (origins_from L G due₀ (next s₀)) ns₀
   unfolding origins_from
   traced_all {written₀ = written₀} {ns₀} {r} {until = until} x over =
-      let None : until - r.counts.scans ≡ 0 = omega arith in
-      let is = x.all ∙ ap (λ (j : ℕ). x.done ++ origins_from L G j (next x.state)) None ∙ append-nil x.done in
+      let none : until - r.counts.scans ≡ 0 = omega arith in
+      let is = x.all ∙ ap (λ (j : ℕ). x.done ++ origins_from L G j (next x.state)) none ∙ append-nil x.done in
       x.numbers ∙ ap (λ (os : List Origin). noted_from written₀ os ns₀) (sym is)
 
 -- Whatever state was held at first --------------------------------------------------------------------------------
@@ -238,10 +240,10 @@ module _ (T : Table) (text : Bytes) (r₀ : Run) (h₀ : List ℕ) (m₀ : Lent)
 
   module _ {r : Run} {ix : List ℕ} {m : Lent} {ns : Numbers} {until : ℕ} (t : Notable r ix m ns until) where
     pub noted_again : r.counts.scans < until → (a : Indexed) → a ≡ step r T text ix m → a.after.answer ≡ GoesOn → a.after.run.counts.scans ≡ r.counts.scans + 1
-        → {k : ℕ} → k ≡ rule r T m.cells → {ns' : Numbers} → ns' ≡ note r a.after.run k ns → Notable a.after.run a.heads a.after.lent ns' until
+        → {k : Rule} → k ≡ rule r T m.cells → {ns' : Numbers} → ns' ≡ note r a.after.run k ns → Notable a.after.run a.heads a.after.lent ns' until
     noted_again left₁ a e on once known is start s x long counted =
         subst (λ (y : Numbers). Tracing T text start (length m₀.cells) due₀ s r₀.counts.written ns₀ a.after.run a.heads a.after.lent y until)
-        (sym (is ∙ ap (λ (j : ℕ). note r a.after.run j ns) known)) (traced T text start (length m₀.cells) (t start s x long counted) left₁ a e on once)
+        (sym (is ∙ ap (λ (j : Rule). note r a.after.run j ns) known)) (traced T text start (length m₀.cells) (t start s x long counted) left₁ a e on once)
 
     pub noted-ended : r.counts.scans < until → (a : Indexed) → a ≡ step r T text ix m → (a.after.answer ≡ GoesOn → ⊥) → Noted T text due₀ r₀ h₀ m₀ ns₀ ns
     noted-ended left a e out = all_noted (λ start s x long counted. traced_ended T text start (length m₀.cells) (t start s x long counted) left a e out)
@@ -252,7 +254,7 @@ module _ (T : Table) (text : Bytes) (r₀ : Run) (h₀ : List ℕ) (m₀ : Lent)
     -- whether the scan was noted or several were made at once: that nothing is noted is told by the lengths
     module _ (silent : Bool) (told : silent ≡ too_short ns₀ (length m₀.output)) (left : ℕ) where
       pub noted_on : r.counts.scans < until → (a : Indexed) → a ≡ steps (at_once silent left) T text (keeping ix (goes r m)) → a.after.answer ≡ GoesOn
-          → a.after.run.counts.scans ≡ r.counts.scans + at_once silent left → {k : ℕ} → k ≡ rule r T m.cells → {ns' : Numbers} → ns' ≡ note_unless silent r a.after.run k ns
+          → a.after.run.counts.scans ≡ r.counts.scans + at_once silent left → {k : Rule} → k ≡ rule r T m.cells → {ns' : Numbers} → ns' ≡ note_unless silent r a.after.run k ns
           → Notable a.after.run a.heads a.after.lent ns' until
       noted_on due a e on once {k} known {ns'} is = go silent told e once is
         where
@@ -269,7 +271,7 @@ module _ (T : Table) (text : Bytes) (r₀ : Run) (h₀ : List ℕ) (m₀ : Lent)
           go false t e₁ = noted-ended due a (one_scan T text r ix m e₁) out
 
       -- what is too short stays as it is
-      pub kept_on : (too_short ns₀ (length m₀.output) ≡ true → ns ≡ ns₀) → (r' : Run) (k : ℕ) {ns' : Numbers} → ns' ≡ note_unless silent r r' k ns
+      pub kept_on : (too_short ns₀ (length m₀.output) ≡ true → ns ≡ ns₀) → (r' : Run) (k : Rule) {ns' : Numbers} → ns' ≡ note_unless silent r r' k ns
           → too_short ns₀ (length m₀.output) ≡ true → ns' ≡ ns₀
       kept_on kept r' k is short =
           let quiet : silent ≡ true = told ∙ short in

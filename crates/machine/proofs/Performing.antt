@@ -9,11 +9,13 @@ use lib.Seq.{drop-drop, drop_at}
 use lib.Dec.{eqb, ltb}
 use borrow.Author.Tests.{ne_eqb, ltb-true, ltb-false}
 use Rattle.decimal.specs.declared.operations.Operation.{Operation}
-use Rattle.decimal.specs.Arithmetic.{Result, number, refused, calculated}
+use Rattle.decimal.specs.Arithmetic.{calculated}
 use Rattle.decimal.specs.Shortest.{digits_of, digits, shortest}
-use Rattle.decimal.specs.Answers.{answer_of, filled, decimal_of}
-use Rattle.decimal.proofs.Laws.{result_in_range, at_most_eleven}
-use Rattle.decimal.proofs.Texts.{digits-room, filled_text, filled-length}
+use Rattle.std.proofs.Math.Seq.{take-length}
+use Rattle.std.specs.Prelude.{ℤ, Result, Ok, Err}
+use Rattle.decimal.specs.declared.operations.Refusal.{Refusal}
+use Rattle.decimal.specs.declared.operations.Refusal.TheVariants as Arithmetical
+use Rattle.decimal.specs.Answers.{answer_of}
 use Rattle.language.specs.Outcomes
 use Rattle.language.specs.Signs.{Bytes, ascii}
 use Rattle.language.specs.declared.built_ins.BuiltIn.{BuiltIn}
@@ -41,7 +43,7 @@ use Rattle.machine.proofs.Represents.{Simulates, SimulatesIndexed, goes, output_
 use Rattle.machine.proofs.Finds.{HoldsItems, Defines, DefinitionAt, definition_at_lem, ArgumentAt, argument_at, argument_past, Newest, absent, present, newest_finds, is_read_finds}
 use Rattle.machine.proofs.Fetching.{block-low, each}
 use Rattle.machine.proofs.Altering.{alter, alter_items, alter_definitions_lem, alter_index, alter_append, alter_width, alter_count, alter_laid, alter_lefts, alter_calls, alter_bodies, KeepsRead, alter_valid, Spot, spot_of, stored, Fits, alter_definitions, Alters, update_alters, lock_alters, alter_size, alter_high, alter_low}
-use Rattle.machine.proofs.Naming.{TextAt, argument_text, named_of, Own, unknown, known, built_ins_only, built_in_named_is, calculate_is, answer_refused}
+use Rattle.machine.proofs.Naming.{TextAt, argument_text, named_of, Own, unknown, known, built_ins_only, built_in_named_is, calculate_is}
 use Rattle.machine.proofs.Words.{compare_is, Picked, nothing, picked, chosen_at}
 use Rattle.machine.proofs.Applying.{Applied, list_of}
 use Rattle.machine.proofs.Calling.{gone_index, arguments_at, links_is, right_to, to_above, freed, release_is, oldest_items, begun, moved_is}
@@ -50,7 +52,8 @@ use Rattle.machine.proofs.Defining.{def_sim}
 use Rattle.machine.specs.Items.{Item, defined, macro_of, width, encode, definitions_of, count}
 use Rattle.machine.specs.Index.{Index}
 use Rattle.machine.specs.Frames.{Places, Frame, address, At, items, places, calls, bodies, Valid}
-use Rattle.language.specs.declared.outcomes.Outcome.TheVariants.{BodyBeingRead, BuiltIn, EmptyName, Locked, NotDefined, NotSupplied, UpdateTooLong}
+use Rattle.language.specs.declared.outcomes.Outcome.TheVariants.{BodyBeingRead, EmptyName, Locked, NotDefined, NotSupplied, UpdateTooLong, NotANumber, DivisorZero, ResultOutOfRange}
+use Rattle.language.specs.declared.outcomes.Outcome.TheVariants as Ends
 
 -- a value that is found is of bytes
 value_octets : (t : Bytes) (ds : List Definition) (k : ℕ) (m : D.Macro) → All DefinitionOctets ds → D.newest t ds ≡ found k (macro m) → Octets m.value
@@ -189,13 +192,10 @@ module _ {n : ℕ} {heads whole start : List ℕ} {r : Run} {l o : List ℕ} {s 
   block_sim from v fit is vo =
       source_sim v from l (low_bytes l) (omega (arith, a.lies.stands.size)) is (omega (arith, a.lies.stands.size, length-low_bytes l)) (block-low from v l is vo)
 
-  -- a decimal gives the text that it holds
-  decimal_sim : (bs : Bytes) → length bs ≤ 11
-      → Ended (M.give_decimal r (decimal_of bs) (lent l o)) (S.perform (limits_of n (length start)) (gives bs) c cs s)
-  decimal_sim bs short =
-      let size = filled-length 11 bs in
-      let is = filled_text 11 bs short in
-      source_sim bs 0 (filled 11 bs) (filled 11 bs) (omega arith) is (omega arith) is
+  -- a decimal gives its text
+  decimal_sim : (bs : Bytes)
+      → Ended (M.give_decimal r bs (lent l o)) (S.perform (limits_of n (length start)) (gives bs) c cs s)
+  decimal_sim bs = source_sim bs 0 bs bs (omega arith) (take-length bs) (omega arith) (take-length bs)
 
   -- DEF --------------------------------------------------------------------------------------------------------------
 
@@ -220,7 +220,7 @@ module _ {n : ℕ} {heads whole start : List ℕ} {r : Run} {l o : List ℕ} {s 
       → (f : Found → Deed) → f missing ≡ faulty Outcomes.not_defined → ((k : ℕ) (bi : BuiltIn) → f (found k (built_in bi)) ≡ faulty Outcomes.built_in)
       → Ended (M.refuse_name r q (lent l o)) (S.perform (limits_of n (length start)) (f F) c cs s)
   refuse_sim q t x F unknown e f m k = rw (built_in_named_is x ∙ ap named_of e, m) (refusing built_ins_free a NotDefined)
-  refuse_sim q t x F (known j bi) e f m k = rw (built_in_named_is x ∙ ap named_of e, k j bi) (refusing built_ins_free a BuiltIn)
+  refuse_sim q t x F (known j bi) e f m k = rw (built_in_named_is x ∙ ap named_of e, k j bi) (refusing built_ins_free a Ends.BuiltIn)
 
   -- a name that is given is looked up: "15, 19", or what is done with the definition that is found
   given_sim : (long : 1 < length list) (f : Found → Deed) → f missing ≡ faulty Outcomes.not_defined
@@ -420,13 +420,14 @@ module _ {n : ℕ} {heads whole start : List ℕ} {r : Run} {l o : List ℕ} {s 
       (S.perform (limits_of n (length start)) (result_of (calculated op (parameter 1 list) (parameter 2 list))) c cs s)
   arithmetic_sim op long =
       rw (calculate_is op (text_is 1 (omega arith)) (each 1 list list_octets) (text_is 2 long) (each 2 list list_octets))
-      (go (calculated op (parameter 1 list) (parameter 2 list)) refl)
+      (go (calculated op (parameter 1 list) (parameter 2 list)))
     where
-      go : (R : Result) → calculated op (parameter 1 list) (parameter 2 list) ≡ R
+      go : (R : Result ℤ Refusal)
           → Ended (M.give_answer r (answer_of R) (lent l o)) (S.perform (limits_of n (length start)) (result_of R) c cs s)
-      go (refused k) e = rw (answer_refused op (parameter 1 list) (parameter 2 list) e) (refusing built_ins_free a k)
-      go (number z) e =
-          decimal_sim (shortest z) (at_most_eleven z (result_in_range op (parameter 1 list) (parameter 2 list) z e))
+      go (Ok z) = decimal_sim (shortest z)
+      go (Err Arithmetical.NotANumber) = refusing built_ins_free a NotANumber
+      go (Err Arithmetical.DivisorZero) = refusing built_ins_free a DivisorZero
+      go (Err Arithmetical.ResultOutOfRange) = refusing built_ins_free a ResultOutOfRange
 
   -- SEQ, SIZE and IF -------------------------------------------------------------------------------------------------
 
@@ -438,8 +439,8 @@ module _ {n : ℕ} {heads whole start : List ℕ} {r : Run} {l o : List ℕ} {s 
   seq_sim long = rw (compare_is (text_is 1 (omega arith)) (text_is 2 long)) (go (D.same (parameter 1 list) (parameter 2 list)))
     where
       go : (z : Bool) → Ended (M.give_count r (cond z 1 0) (lent l o)) (S.perform (limits_of n (length start)) (gives (cond z (ascii "1") (ascii "0"))) c cs s)
-      go true = decimal_sim (ascii "1") (omega arith)
-      go false = decimal_sim (ascii "0") (omega arith)
+      go true = decimal_sim (ascii "1")
+      go false = decimal_sim (ascii "0")
 
   size_sim : (long : 1 < length list)
       → Ended
@@ -447,8 +448,7 @@ module _ {n : ℕ} {heads whole start : List ℕ} {r : Run} {l o : List ℕ} {s 
       (S.perform (limits_of n (length start)) (gives (digits (length (parameter 1 list)))) c cs s)
   size_sim long =
       let x = text_is 1 long in
-      let small : length (parameter 1 list) ≤ 65536 = omega (arith, x.within, a.lies.stands.size, a.cells_lent) in
-      rw x.counted (decimal_sim (digits (length (parameter 1 list))) (omega (arith, digits-room (length (parameter 1 list)) (omega arith))))
+      rw x.counted (decimal_sim (digits (length (parameter 1 list))))
 
   if_sim : Ended (M.choose r name (lent l o)) (S.perform (limits_of n (length start)) (gives (B.chosen (drop 1 list))) c cs s)
   if_sim = go (B.chosen (drop 1 list)) (chosen l name)

@@ -28,6 +28,8 @@ use Rattle.machine.proofs.Showing.{state_shown}
 use Rattle.machine.specs.Frames.{Places, Frame, made, collects, reads, laid, places, calls}
 use Rattle.machine.specs.Held.{Represents}
 use Rattle.machine.proofs.Lists.{set-placed, overwrite}
+use Rattle.language.specs.Outcomes.{number_of}
+use Rattle.language.specs.declared.outcomes.Outcome.{Outcome}
 use Rattle.language.specs.declared.outcomes.Outcome.TheVariants.{NoCellsLeft, NoOutputLeft}
 
 -- Tests that agree ---------------------------------------------------------------------------------------------------
@@ -56,8 +58,8 @@ module _ {n : ℕ} {older : List Definition} {heads whole start : List ℕ} {r :
   fs = h.frames
 
   -- an outcome with nothing changed
-  pub refusal : (k : ℕ) → Simulates n older heads whole start (M.ends k r (lent l o)) (S.ends k s)
-  refusal k = stops (record { answer = refl; shows = state_shown h })
+  pub refusal : (outcome : Outcome) → Simulates n older heads whole start (M.ends outcome r (lent l o)) (S.ends (number_of outcome) s)
+  refusal outcome = stops (record { answer = refl; shows = state_shown h })
 
   -- bytes collected: they stand behind the left stack, and the right one is as it was
   pub collecting : (bs : Bytes) (l' : List ℕ) → Collects n b fs → r.calls.left + length bs ≤ r.right

@@ -14,7 +14,7 @@ use Rattle.language.specs.declared.built_ins.BuiltIn.{BuiltIn}
 use Rattle.language.specs.declared.built_ins.BuiltIn.TheVariants.{Def, Val, Update, Arithmetic, Seq, Size, If, Lock}
 use Rattle.language.specs.declared.signs.Sign.{Sign}
 use Rattle.language.specs.declared.signs.Sign.TheVariants.{Plain, Dollar, Comma, Semicolon, Tilde, Quote, Unquote}
-use Rattle.language.specs.Signs.{Bytes, Table, ascii, sign_of_kind, Meaning, copied, left_out, opens, separates, applies, fetches, unquotes, outside, inside, closes_to, meaning, Language, language}
+use Rattle.language.specs.Signs.{Bytes, Table, ascii, sign_of, Meaning, copied, left_out, opens, separates, applies, fetches, unquotes, outside, inside, closes_to, meaning, Language, language}
 use Rattle.language.specs.Definitions.{Content, macro, built_in, Definition, Found, found, missing, newest}
 use Rattle.language.specs.Definitions as D
 use Rattle.language.specs.BuiltIns.{Deed, reads, defines, gives, alters, faulty, built_ins, needs, parameter, performed, deed_of, deed}
@@ -23,14 +23,16 @@ use Rattle.language.specs.Octets.{Octets, BodyOctets, HoldsOctets}
 use Rattle.language.specs.Scanning.{State, Call, Body}
 use Rattle.language.specs.Scanning as S
 use Rattle.language.specs.Expansion.{lent}
+use Rattle.language.specs.declared.rules.Rule.{Rule}
+use Rattle.language.specs.declared.rules.Rule.TheVariants.{CopiedFromText, CopiedFromBody, Fetched, GivenByVal, GivenByBuiltIn}
 use Rattle.language.specs.Origins as O
-use Rattle.language.specs.Origins.{Writes, puts, giving, taking, taken, writes, given_by}
+use Rattle.language.specs.Origins.{Writes, puts, giving, taking, taken, writes, given_by, rule_number}
 use Rattle.language.proofs.Lists.{either, all_append}
 use Rattle.language.proofs.Demand.{built_ins_free}
 use Rattle.machine.specs.declared.run.Run.{Run}
 use Rattle.machine.specs.Walks.{nowhere, packed}
 use Rattle.machine.specs.Machine as M
-use Rattle.machine.specs.Origins.{fetches_next, given_by_name, rule}
+use Rattle.machine.specs.Origins.{is_tilde, fetches_next, given_by_name, rule}
 use Rattle.machine.specs.Items.{Item, defined, listed, definitions_of, encode_arguments, encode_call}
 use Rattle.machine.specs.Frames.{Places, Frame, made, collects, reads, address, laid, items, places, lefts, calls}
 use Rattle.machine.specs.Held.{Represents}
@@ -44,31 +46,22 @@ use Rattle.machine.proofs.Fetching.{body_next}
 use Rattle.machine.proofs.Simulating.{first_octet, innermost_octets}
 
 -- what is written, is written by this rule
-abbrev pub RuleIs : ℕ → Option Writes → Type 0
+abbrev pub RuleIs : Rule → Option Writes → Type 0
 RuleIs k None = Unit {0}
-RuleIs k (Some w) = w.rule ≡ k
+RuleIs k (Some w) = w.rule ≡ rule_number k
 
--- only `~` outside of quotes fetches
-outside_fetches : (a b c d e f : Bool) → outside (cond a Dollar (cond b Comma (cond c Semicolon (cond d Tilde (cond e Quote (cond f Unquote Plain)))))) ≡ fetches → d ≡ true
-outside_fetches true b c d e f p = let z : ◌≡◌ {A = ℕ} 0 1 = cc in absurd (omega arith)
-outside_fetches false true c d e f p = let z : ◌≡◌ {A = ℕ} 0 1 = cc in absurd (omega arith)
-outside_fetches false false true d e f p = let z : ◌≡◌ {A = ℕ} 0 1 = cc in absurd (omega arith)
-outside_fetches false false false true e f p = refl
-outside_fetches false false false false true f p = let z : ◌≡◌ {A = ℕ} 0 1 = cc in absurd (omega arith)
-outside_fetches false false false false false true p = let z : ◌≡◌ {A = ℕ} 0 1 = cc in absurd (omega arith)
-outside_fetches false false false false false false p = let z : ◌≡◌ {A = ℕ} 0 1 = cc in absurd (omega arith)
-
+-- inside of quotes nothing fetches
 closing_copied : (q : ℕ) → closes_to q ≡ fetches → ⊥
-closing_copied zero p = let z : ◌≡◌ {A = ℕ} 0 1 = cc in absurd (omega arith)
-closing_copied (suc q) p = let z : ◌≡◌ {A = ℕ} 0 1 = cc in absurd (omega arith)
+closing_copied zero p = cc
+closing_copied (suc q) p = cc
 
 inside-copied : (q : ℕ) (g : Sign) → inside q g ≡ fetches → ⊥
-inside-copied q Plain p = let z : ◌≡◌ {A = ℕ} 0 1 = cc in absurd (omega arith)
-inside-copied q Dollar p = let z : ◌≡◌ {A = ℕ} 0 1 = cc in absurd (omega arith)
-inside-copied q Comma p = let z : ◌≡◌ {A = ℕ} 0 1 = cc in absurd (omega arith)
-inside-copied q Semicolon p = let z : ◌≡◌ {A = ℕ} 0 1 = cc in absurd (omega arith)
-inside-copied q Tilde p = let z : ◌≡◌ {A = ℕ} 0 1 = cc in absurd (omega arith)
-inside-copied q Quote p = let z : ◌≡◌ {A = ℕ} 0 1 = cc in absurd (omega arith)
+inside-copied q Plain p = cc
+inside-copied q Dollar p = cc
+inside-copied q Comma p = cc
+inside-copied q Semicolon p = cc
+inside-copied q Tilde p = cc
+inside-copied q Quote p = cc
 inside-copied q Unquote p = closing_copied q p
 
 -- Names --------------------------------------------------------------------------------------------------------------
@@ -76,7 +69,7 @@ inside-copied q Unquote p = closing_copied q p
 -- a built-in has the rule that its name says
 abbrev Right : Bytes → Content → Type 0
 Right name (macro x) = Unit {0}
-Right name (built_in b) = cond (D.same name (ascii "VAL")) O.given_by_val O.given_by_built_in ≡ given_by b
+Right name (built_in b) = rule_number (cond (D.same name (ascii "VAL")) GivenByVal GivenByBuiltIn) ≡ given_by b
 
 abbrev RightDefinition : Definition → Type 0
 RightDefinition d = Right d.name d.content
@@ -114,7 +107,7 @@ module _ (n base : ℕ) where
 
   arguments_of : (fs : List Frame) (c : Call) (cs : List Call) → calls n base fs ≡ c ∷ cs → Arguments fs c
   unfolding laid lefts calls
-  arguments_of [] c cs e = let z : ◌≡◌ {A = ℕ} 0 1 = cc in absurd (omega arith)
+  arguments_of [] c cs e = cc
   arguments_of (made f name value spare ∷ fs) c cs e = let x = arguments_of fs c cs e in record { behind = x.behind; cells = x.cells }
   arguments_of (collects ended hand waits ∷ fs) c cs e =
       let p = places n base fs in
@@ -138,12 +131,12 @@ module _ {n : ℕ} {heads whole start : List ℕ} {r : Run} {l o : List ℕ} {s 
       let b = length built_ins in
       let fs = h.frames in
       let are : calls n b fs ≡ c ∷ cs = sym h.calls_are ∙ e in
-      let Some : Collects n b fs = rw are (omega arith) in
+      let some : Collects n b fs = rw are (omega arith) in
       let x = arguments_of n b fs c cs are in
       let low = lefts n b fs in
       let rest = drop r.calls.left l in
       let whole' : l ≡ low ++ rest = sym (take-append-drop r.calls.left l) ∙ ap (λ (y : List ℕ). y ++ rest) h.lefts_are in
-      let inside : r.calls.call + 3 ≤ length low = omega (arith, call_eq, call_before n b fs Some, left_is n b fs) in
+      let inside : r.calls.call + 3 ≤ length low = omega (arith, call_eq, call_before n b fs some, left_is n b fs) in
       let d : drop (r.calls.call + 3) l ≡ encode_arguments (a ∷ more) ++ (x.behind ++ rest) =
       ap (drop (r.calls.call + 3)) whole'
       ∙ drop-append-le (r.calls.call + 3) low rest inside
@@ -161,24 +154,24 @@ module _ {n : ℕ} {heads whole start : List ℕ} {r : Run} {l o : List ℕ} {s 
 
   -- the rule by the name is that of the built-in which is found under it
   named_rule : (c : Call) (cs : List Call) (a : Bytes) (more : List Bytes) → s.calls ≡ c ∷ cs → c.ended ≡ a ∷ more
-      → {k : ℕ} (b : BuiltIn) → newest a s.standing.definitions ≡ found k (built_in b) → given_by b ≡ given_by_name l (r.calls.call + 3)
+      → {k : ℕ} (b : BuiltIn) → newest a s.standing.definitions ≡ found k (built_in b) → given_by b ≡ rule_number (given_by_name l (r.calls.call + 3))
   named_rule c cs a more e q {k} b f =
       let t = name_at c cs a more e q in
       let right : RightFound a (newest a s.standing.definitions) =
       newest_right a (subst (All RightDefinition) (sym h.lies.stands.definitions) (all_append (items_right (items n (length built_ins) h.frames)) built_ins_right)) in
-      let is : cond (D.same a (ascii "VAL")) O.given_by_val O.given_by_built_in ≡ given_by b = subst (RightFound a) f right in
+      let is : rule_number (cond (D.same a (ascii "VAL")) GivenByVal GivenByBuiltIn) ≡ given_by b = subst (RightFound a) f right in
       rw (t.counted, same_bytes_in (r.calls.call + 3 + 1) (length a) (ascii "VAL") l t.within, t.bytes, same_is a (ascii "VAL")) (sym is)
 
   -- Where a call is open only a built-in writes, and no call stands around it ---------------------------------------
 
   module _ (c : Call) (cs : List Call) (e : s.calls ≡ c ∷ cs) where
-    abbrev given : ℕ
+    abbrev given : Rule
     given = given_by_name l (r.calls.call + 3)
 
     none-put : (rule : ℕ) (bs : Bytes) → RuleIs given (puts s.calls rule bs)
     none-put rule bs = subst (λ (y : List Call). RuleIs given (puts y rule bs)) (sym e) tt
 
-    gives_by : (b : BuiltIn) (ds : List Call) (d : Deed) → given_by b ≡ given → RuleIs given (giving b ds d)
+    gives_by : (b : BuiltIn) (ds : List Call) (d : Deed) → given_by b ≡ rule_number given → RuleIs given (giving b ds d)
     gives_by b [] (gives bs) p = p
     gives_by b (o ∷ ds) (gives bs) p = tt
     gives_by b ds (reads j v) p = tt
@@ -206,7 +199,7 @@ module _ {n : ℕ} {heads whole start : List ℕ} {r : Run} {l o : List ℕ} {s 
         D : Deed
         D = performed ks (S.list_of c) s.standing.definitions b
 
-        ended : (xs : List Bytes) → c.ended ≡ xs → needs b < length (xs ++ (c.hand ∷ [])) → given_by b ≡ given
+        ended : (xs : List Bytes) → c.ended ≡ xs → needs b < length (xs ++ (c.hand ∷ [])) → given_by b ≡ rule_number given
         ended [] q long = let one = some_needed b in absurd (omega arith)
         ended (a ∷ more) q long = named_rule c cs a more e q b (ap (λ (xs : List Bytes). newest (parameter 0 (xs ++ (c.hand ∷ []))) s.standing.definitions) (sym q) ∙ p)
 
@@ -255,7 +248,7 @@ module _ {n : ℕ} {heads whole start : List ℕ} {r : Run} {l o : List ℕ} {s 
     no_call_is = eq-eqb _ _ (call_eq ∙ no_call n (length built_ins) h.frames (sym h.calls_are ∙ e))
 
     -- all but a fetched parameter
-    copied_by : (k : ℕ) (G : Language) (m : Meaning) (x : ℕ) (s₁ : State) → s₁.calls ≡ s.calls → O.copied_from s₁.bodies ≡ k
+    copied_by : (k : Rule) (G : Language) (m : Meaning) (x : ℕ) (s₁ : State) → s₁.calls ≡ s.calls → O.copied_from s₁.bodies ≡ rule_number k
         → ((m ≡ fetches → RuleIs k (O.fetching G s₁.bodies x s₁))) → RuleIs k (taken G m x s₁)
     copied_by k G m x s₁ same from fetch = go m refl
       where
@@ -271,56 +264,57 @@ module _ {n : ℕ} {heads whole start : List ℕ} {r : Run} {l o : List ℕ} {s 
         go fetches p = fetch p
         go unquotes p = copy
 
-    text_by : (G : Language) (t : Bytes) → s.bodies ≡ [] → RuleIs O.copied_from_text (O.taken_from G [] t s)
+    text_by : (G : Language) (t : Bytes) → s.bodies ≡ [] → RuleIs CopiedFromText (O.taken_from G [] t s)
     text_by G [] q = tt
     text_by G (x ∷ t) q =
         let from : O.copied_from s.bodies ≡ O.copied_from_text = ap O.copied_from q in
-        let copy : RuleIs O.copied_from_text (O.fetching G s.bodies x s) =
-        subst (λ (Bs : List Body). RuleIs O.copied_from_text (O.fetching G Bs x s)) (sym q) (subst (λ (y : List Call). RuleIs O.copied_from_text (puts y (O.copied_from s.bodies) (x ∷ []))) (sym e) from) in
-        copied_by O.copied_from_text G (meaning G.table s.quotes x) x s refl from (λ p. copy)
+        let copy : RuleIs CopiedFromText (O.fetching G s.bodies x s) =
+        subst (λ (Bs : List Body). RuleIs CopiedFromText (O.fetching G Bs x s)) (sym q) (subst (λ (y : List Call). RuleIs CopiedFromText (puts y (O.copied_from s.bodies) (x ∷ []))) (sym e) from) in
+        copied_by CopiedFromText G (meaning G.table s.quotes x) x s refl from (λ p. copy)
 
     -- a byte of a body, by its kind
     body_by : (T : Table) (B : Body) (Bs : List Body) (x : ℕ) (t : Bytes) → M.body_byte r l ≡ x → x < 256
-        → RuleIs (cond (fetches_next r T l) O.fetched O.copied_from_body)
+        → RuleIs (cond (fetches_next r T l) Fetched CopiedFromBody)
         (taken (language T) (meaning T s.quotes x) x (S.with_bodies (S.with_rest t B ∷ Bs) s))
     unfolding meaning
     body_by T B Bs x t is small = go s.quotes refl
       where
-        fetch : (rest : Bytes) → RuleIs O.fetched (O.fetching_in (language T) rest B.list (S.with_bodies (S.with_rest t B ∷ Bs) s))
+        fetch : (rest : Bytes) → RuleIs Fetched (O.fetching_in (language T) rest B.list (S.with_bodies (S.with_rest t B ∷ Bs) s))
         fetch [] = tt
         fetch (y ∷ rest) = number ((language T).parameter_number y)
           where
-            to : (cs : List Call) (bs : Bytes) → RuleIs O.fetched (puts cs O.fetched bs)
+            to : (cs : List Call) (bs : Bytes) → RuleIs Fetched (puts cs O.fetched bs)
             to [] bs = refl
             to (c ∷ cs) bs = tt
 
-            number : (j : Option ℕ) → RuleIs O.fetched (O.fetching_number j B.list (S.with_bodies (S.with_rest t B ∷ Bs) s))
+            number : (j : Option ℕ) → RuleIs Fetched (O.fetching_number j B.list (S.with_bodies (S.with_rest t B ∷ Bs) s))
             number None = tt
             number (Some j) = to s.calls (parameter j B.list)
 
-        kind : (k : ℕ) (d : Bool) → eqb k 4 ≡ d
-            → RuleIs (cond d O.fetched O.copied_from_body) (taken (language T) (outside (sign_of_kind k)) x (S.with_bodies (S.with_rest t B ∷ Bs) s))
-        kind k true p =
-            subst (λ (j : ℕ). RuleIs O.fetched (taken (language T) (outside (sign_of_kind j)) x (S.with_bodies (S.with_rest t B ∷ Bs) s))) (sym (eqb-true k 4 p)) (fetch t)
-        kind k false p =
-            copied_by O.copied_from_body (language T) (outside (sign_of_kind k)) x (S.with_bodies (S.with_rest t B ∷ Bs) s) refl refl
-            (λ q. absurd (true≢false (sym (outside_fetches (eqb k 1) (eqb k 2) (eqb k 3) (eqb k 4) (eqb k 5) (eqb k 6) q) ∙ p)))
+        signed : (g : Sign) → RuleIs (cond (is_tilde g) Fetched CopiedFromBody) (taken (language T) (outside g) x (S.with_bodies (S.with_rest t B ∷ Bs) s))
+        signed Tilde = fetch t
+        signed Plain = copied_by CopiedFromBody (language T) (outside Plain) x (S.with_bodies (S.with_rest t B ∷ Bs) s) refl refl (λ p. cc)
+        signed Dollar = copied_by CopiedFromBody (language T) (outside Dollar) x (S.with_bodies (S.with_rest t B ∷ Bs) s) refl refl (λ p. cc)
+        signed Comma = copied_by CopiedFromBody (language T) (outside Comma) x (S.with_bodies (S.with_rest t B ∷ Bs) s) refl refl (λ p. cc)
+        signed Semicolon = copied_by CopiedFromBody (language T) (outside Semicolon) x (S.with_bodies (S.with_rest t B ∷ Bs) s) refl refl (λ p. cc)
+        signed Quote = copied_by CopiedFromBody (language T) (outside Quote) x (S.with_bodies (S.with_rest t B ∷ Bs) s) refl refl (λ p. cc)
+        signed Unquote = copied_by CopiedFromBody (language T) (outside Unquote) x (S.with_bodies (S.with_rest t B ∷ Bs) s) refl refl (λ p. cc)
 
-        go : (q : ℕ) → s.quotes ≡ q → RuleIs (cond (fetches_next r T l) O.fetched O.copied_from_body) (taken (language T) (meaning T q x) x (S.with_bodies (S.with_rest t B ∷ Bs) s))
+        go : (q : ℕ) → s.quotes ≡ q → RuleIs (cond (fetches_next r T l) Fetched CopiedFromBody) (taken (language T) (meaning T q x) x (S.with_bodies (S.with_rest t B ∷ Bs) s))
         go zero p =
             let whole' : x % 256 ≡ x = omega arith in
-            rw (le-ltb 0 r.quotes (omega (arith, h.quotes)), is, whole') (kind (get_or T x 0) (eqb (get_or T x 0) 4) refl)
+            rw (le-ltb 0 r.quotes (omega (arith, h.quotes)), is, whole') (signed (sign_of T x))
         go (suc q) p =
             rw (lt-ltb 0 r.quotes (omega (arith, h.quotes)))
-            (copied_by O.copied_from_body (language T) (inside q (sign_of_kind (get_or T x 0))) x (S.with_bodies (S.with_rest t B ∷ Bs) s) refl refl
-            (λ p₁. absurd (inside-copied q (sign_of_kind (get_or T x 0)) p₁)))
+            (copied_by CopiedFromBody (language T) (inside q (sign_of T x)) x (S.with_bodies (S.with_rest t B ∷ Bs) s) refl refl
+            (λ p₁. absurd (inside-copied q (sign_of T x) p₁)))
 
   in_body : (B : Body) (Bs : List Body) → s.bodies ≡ B ∷ Bs → eqb r.source.list nowhere ≡ false
   in_body B Bs e =
       let b = length built_ins in
       let fs = h.frames in
-      let Some : Reads n b fs = rw (sym h.bodies_are ∙ e) (omega arith) in
-      let k = list_inside n b h.cells_lent fs Some (omega (arith, h.lies.stands.right)) in
+      let some : Reads n b fs = rw (sym h.bodies_are ∙ e) (omega arith) in
+      let k = list_inside n b h.cells_lent fs some (omega (arith, h.lies.stands.right)) in
       let q : r.source.list ≡ (places n b fs).list = ap (λ (p : Places). p.list) h.places_are in
       ne_eqb r.source.list nowhere (λ z. absurd (omega (arith, h.cells_lent)))
 
@@ -332,13 +326,13 @@ module _ {n : ℕ} {heads whole start : List ℕ} {r : Run} {l o : List ℕ} {s 
       small B Bs x t e q = first_octet (subst Octets q (innermost_octets (subst (All BodyOctets) e oct.bodies)).rest)
 
       none_open : s.calls ≡ [] → (Bs : List Body) → s.bodies ≡ Bs
-          → RuleIs (cond (eqb r.source.list nowhere) O.copied_from_text (cond (fetches_next r T l) O.fetched O.copied_from_body)) (O.taken_from (language T) Bs s.text s)
+          → RuleIs (cond (eqb r.source.list nowhere) CopiedFromText (cond (fetches_next r T l) Fetched CopiedFromBody)) (O.taken_from (language T) Bs s.text s)
       none_open e [] q =
           let is : eqb r.source.list nowhere ≡ true = eq-eqb _ _ (ap (λ (p : Places). p.list) h.places_are ∙ in_text n (length built_ins) h.frames (sym h.bodies_are ∙ q)) in
           rw is (text_by e (language T) s.text q)
       none_open e (B ∷ Bs) q = rw (in_body B Bs q) (rest B.rest refl)
         where
-          rest : (t : Bytes) → B.rest ≡ t → RuleIs (cond (fetches_next r T l) O.fetched O.copied_from_body) (O.taken_from_body (language T) t B Bs s)
+          rest : (t : Bytes) → B.rest ≡ t → RuleIs (cond (fetches_next r T l) Fetched CopiedFromBody) (O.taken_from_body (language T) t B Bs s)
           rest [] p = tt
           rest (x ∷ t) p = body_by e T B Bs x t (body_next h B Bs q x t p (small B Bs x t q p)) (small B Bs x t q p)
 
@@ -354,5 +348,5 @@ module _ {n : ℕ} {heads whole start : List ℕ} {r : Run} {l o : List ℕ} {s 
       go : (cs : List Call) → s.calls ≡ cs → RuleIs (rule r T l) (O.taken_from (language T) s.bodies s.text s)
       go [] e = rw (no_call_is e) (none_open e s.bodies refl)
       go (c ∷ cs) e =
-          let Some : Collects n (length built_ins) h.frames = rw (sym h.calls_are ∙ e) (omega arith) in
-          rw (call_is built_ins_free h Some) (some_open c cs e s.bodies s.text)
+          let some : Collects n (length built_ins) h.frames = rw (sym h.calls_are ∙ e) (omega arith) in
+          rw (call_is built_ins_free h some) (some_open c cs e s.bodies s.text)

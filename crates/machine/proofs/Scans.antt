@@ -8,14 +8,16 @@ use native.Mathlib.Nat.{mod-eq_of_lt}
 use borrow.Author.Tests.{eq-eqb, ne_eqb, leb-false}
 use lib.ListN.{length, get_or}
 use lib.Dec.{eqb, leb}
+use Rattle.language.specs.declared.signs.Sign.{Sign}
+use Rattle.language.specs.Signs.{sign_of}
 use Rattle.language.specs.Expansion.{lent}
 use Rattle.machine.specs.Machine.{Sound, keeping, body_byte, end_text, end_body, with_read, with_offset, scanned, next_byte, passed, end_source, scan_byte, scan_text, scan_body, step}
 use Rattle.machine.specs.Walks.{nowhere}
 use Rattle.machine.specs.declared.run.Run.{Run}
 use Rattle.machine.proofs.Bodies.{small, inside}
 
-module _ (r : Run) (kinds h l o : List ℕ) {b k : ℕ} where
-  next_byte_lem : b ≡ body_byte r l → (b ≡ nowhere → ⊥) → k ≡ get_or kinds (b % 256) 0 → scan_byte (with_offset (r.source.offset + 1) r) k (b % 256) h (lent l o) ≡ scan_body r kinds h (lent l o)
+module _ (r : Run) (kinds h l o : List ℕ) {b : ℕ} {k : Sign} where
+  next_byte_lem : b ≡ body_byte r l → (b ≡ nowhere → ⊥) → k ≡ sign_of kinds (b % 256) → scan_byte (with_offset (r.source.offset + 1) r) k (b % 256) h (lent l o) ≡ scan_body r kinds h (lent l o)
   next_byte_lem e n q = rw (q, mod-eq_of_lt (small r l e n), ← e, ne_eqb _ _ n)
 
 -- in the text a byte that is not at its end stands before its length
@@ -36,7 +38,7 @@ module _ (r : Run) (kinds text h l o : List ℕ) (octets : (i : ℕ) → get_or 
   at_end e = go (eqb r.source.list nowhere) e
     where
       in_text : (t : Bool) → cond t nowhere (get_or text r.counts.read 0) ≡ nowhere
-          → keeping h (end_text (scanned r) (lent l o)) ≡ cond t (keeping h (end_text (scanned r) (lent l o))) (scan_byte (with_read (r.counts.read + 1) (scanned r)) (get_or kinds (get_or text r.counts.read 0) 0) (get_or text r.counts.read 0) h (lent l o))
+          → keeping h (end_text (scanned r) (lent l o)) ≡ cond t (keeping h (end_text (scanned r) (lent l o))) (scan_byte (with_read (r.counts.read + 1) (scanned r)) (sign_of kinds (get_or text r.counts.read 0)) (get_or text r.counts.read 0) h (lent l o))
       in_text true z = refl
       in_text false z = absurd (omega (arith, octets r.counts.read))
 
@@ -46,14 +48,14 @@ module _ (r : Run) (kinds text h l o : List ℕ) (octets : (i : ℕ) → get_or 
       go false z = rw (eq-eqb _ _ z) refl
 
   -- before it, that of the byte
-  pub before : {b k : ℕ} → b ≡ next_byte (scanned r) text l → (b ≡ nowhere → ⊥) → k ≡ get_or kinds (b % 256) 0
+  pub before : {b : ℕ} {k : Sign} → b ≡ next_byte (scanned r) text l → (b ≡ nowhere → ⊥) → k ≡ sign_of kinds (b % 256)
       → scan_byte (passed (scanned r)) k (b % 256) h (lent l o) ≡ step r kinds text h (lent l o)
   unfolding step
   before {b} {k} e n q = go (eqb r.source.list nowhere) e
     where
       in_text : (t : Bool) → b ≡ cond t nowhere (get_or text r.counts.read 0)
           → scan_byte (with_read (r.counts.read + 1) (scanned r)) k (b % 256) h (lent l o)
-          ≡ cond t (keeping h (end_text (scanned r) (lent l o))) (scan_byte (with_read (r.counts.read + 1) (scanned r)) (get_or kinds (get_or text r.counts.read 0) 0) (get_or text r.counts.read 0) h (lent l o))
+          ≡ cond t (keeping h (end_text (scanned r) (lent l o))) (scan_byte (with_read (r.counts.read + 1) (scanned r)) (sign_of kinds (get_or text r.counts.read 0)) (get_or text r.counts.read 0) h (lent l o))
       in_text true z = absurd (n z)
       in_text false z = rw (q, mod-eq_of_lt (let y = octets r.counts.read in let w : b < 256 = omega arith in w), z) refl
 

@@ -9,8 +9,9 @@ use lib.Seq.{get_or-drop}
 use lib.Dec.{eqb, ltb}
 use borrow.Author.Tests.{lt-ltb, le-ltb, le-leb, lt-leb, ne_eqb, eqb-true}
 use Rattle.language.specs.Outcomes
+use Rattle.language.specs.declared.signs.Sign.{Sign}
 use Rattle.language.specs.declared.signs.Sign.TheVariants.{Plain, Dollar, Comma, Semicolon, Tilde, Quote, Unquote}
-use Rattle.language.specs.Signs.{Bytes, Table, sign_of_kind, meaning, outside, inside, closes_to, language}
+use Rattle.language.specs.Signs.{Bytes, Table, sign_of, meaning, outside, inside, closes_to, language}
 use Rattle.language.specs.BuiltIns.{built_ins, deed}
 use Rattle.language.specs.Charge.{open_price}
 use Rattle.language.specs.Matched.{All, with}
@@ -96,32 +97,21 @@ module _ {n : ℕ} {heads whole start : List ℕ} {r : Run} {l o : List ℕ} {s 
       (λ B Bs e. let k = innermost_octets (subst (All BodyOctets) e oct.bodies) in fetch_body_sim built_ins_free h B Bs e T k.rest k.list)
 
   -- a byte outside of quotes
-  sign_sim : s.quotes ≡ 0 → (k x : ℕ) → Sim (M.scan_sign r k x heads (lent l o)) (S.byte L (language T) (outside (sign_of_kind k)) x s)
-  sign_sim z k x = go (eqb k 1) (eqb k 2) (eqb k 3) (eqb k 4) (eqb k 5) (eqb k 6)
-    where
-      same : M.with_quotes 0 r ≡ r
-      same = ap (λ (q : ℕ). M.with_quotes q r) (sym (h.quotes ∙ z))
-
-      go : (a b c d e f : Bool)
-          → Sim (cond a (M.keeping heads (M.open_call r (lent l o))) (cond b (M.keeping heads (M.separate r x (lent l o))) (cond c (M.apply r x heads (lent l o)) (cond d (M.keeping heads (M.fetch r x (lent l o)))
-          (cond e (M.keeping heads (M.goes (M.with_quotes 1 r) (lent l o))) (cond f (M.keeping heads (M.unquote r x (lent l o))) (M.keeping heads (M.put r x (lent l o)))))))))
-          (S.byte L (language T) (outside (cond a Dollar (cond b Comma (cond c Semicolon (cond d Tilde (cond e Quote (cond f Unquote Plain))))))) x s)
-      go true b c d e f = open_sim built_ins_free h
-      go false true c d e f = separate_sim built_ins_free h x
-      go false false true d e f = apply_sim x
-      go false false false true e f = fetch_sim x
-      go false false false false true f = goes refl (quoted h 1)
-      go false false false false false true = unquote_sim built_ins_free h x
-      go false false false false false false =
-          subst (λ (u : Run). Kept (M.put u x (lent l o)) (S.put L (x ∷ []) (S.with_quotes 0 s))) same (put_byte built_ins_free (quoted h 0) x)
+  sign_sim : s.quotes ≡ 0 → (g : Sign) (x : ℕ) → Sim (M.scan_sign r g x heads (lent l o)) (S.byte L (language T) (outside g) x s)
+  sign_sim z Dollar x = open_sim built_ins_free h
+  sign_sim z Comma x = separate_sim built_ins_free h x
+  sign_sim z Semicolon x = apply_sim x
+  sign_sim z Tilde x = fetch_sim x
+  sign_sim z Quote x = goes refl (quoted h 1)
+  sign_sim z Unquote x = unquote_sim built_ins_free h x
+  sign_sim z Plain x =
+      let same : M.with_quotes 0 r ≡ r = ap (λ (q : ℕ). M.with_quotes q r) (sym (h.quotes ∙ z)) in
+      subst (λ (u : Run). Kept (M.put u x (lent l o)) (S.put L (x ∷ []) (S.with_quotes 0 s))) same (put_byte built_ins_free (quoted h 0) x)
 
   -- a byte inside of quotes
-  quoted_sim : (q : ℕ) → s.quotes ≡ suc q → (k x : ℕ) → Kept (M.scan_quoted r k x (lent l o)) (S.byte L (language T) (inside q (sign_of_kind k)) x s)
-  quoted_sim q z k x = rw (h.quotes ∙ z) (opening (eqb k 5) refl)
+  quoted_sim : (q : ℕ) → s.quotes ≡ suc q → (g : Sign) (x : ℕ) → Kept (M.scan_quoted r g x (lent l o)) (S.byte L (language T) (inside q g) x s)
+  quoted_sim q z g x = rw (h.quotes ∙ z) (go g)
     where
-      Goal : ℕ → Type 0
-      Goal j = Kept (cond (eqb (M.quotes_after (suc q) j) 0) (M.goes (M.with_quotes 0 r) (lent l o)) (M.put (M.with_quotes (M.quotes_after (suc q) j) r) x (lent l o))) (S.byte L (language T) (inside q (sign_of_kind j)) x s)
-
       copies : (m : ℕ) → Kept (cond (eqb (suc m) 0) (M.goes (M.with_quotes 0 r) (lent l o)) (M.put (M.with_quotes (suc m) r) x (lent l o))) (S.put L (x ∷ []) (S.with_quotes (suc m) s))
       copies m = rw (ne_eqb (suc m) 0 (λ e. absurd (omega arith))) (put_byte built_ins_free (quoted h (suc m)) x)
 
@@ -129,30 +119,23 @@ module _ {n : ℕ} {heads whole start : List ℕ} {r : Run} {l o : List ℕ} {s 
       closes zero = goes refl (quoted h 0)
       closes (suc m) = copies m
 
-      other : (a b c d : Bool) → Kept (cond (eqb (suc q) 0) (M.goes (M.with_quotes 0 r) (lent l o)) (M.put (M.with_quotes (suc q) r) x (lent l o)))
-          (S.byte L (language T) (inside q (cond a Dollar (cond b Comma (cond c Semicolon (cond d Tilde Plain))))) x s)
-      other true b c d = copies q
-      other false true c d = copies q
-      other false false true d = copies q
-      other false false false true = copies q
-      other false false false false = copies q
-
-      closing : (f : Bool) → eqb k 5 ≡ false → eqb k 6 ≡ f → Goal k
-      closing true p e = subst Goal (sym (eqb-true k 6 e)) (let z : suc q - 1 ≡ q = omega arith in rw z (closes q))
-      closing false p e = rw (p, e) (other (eqb k 1) (eqb k 2) (eqb k 3) (eqb k 4))
-
-      opening : (f : Bool) → eqb k 5 ≡ f → Goal k
-      opening true e = subst Goal (sym (eqb-true k 5 e)) (let z : suc q + 1 ≡ suc (suc q) = omega arith in rw z (copies (suc q)))
-      opening false e = closing (eqb k 6) e refl
+      go : (j : Sign) → Kept (cond (eqb (M.quotes_after (suc q) j) 0) (M.goes (M.with_quotes 0 r) (lent l o)) (M.put (M.with_quotes (M.quotes_after (suc q) j) r) x (lent l o))) (S.byte L (language T) (inside q j) x s)
+      go Plain = copies q
+      go Dollar = copies q
+      go Comma = copies q
+      go Semicolon = copies q
+      go Tilde = copies q
+      go Quote = let y : suc q + 1 ≡ suc (suc q) = omega arith in rw y (copies (suc q))
+      go Unquote = let y : suc q - 1 ≡ q = omega arith in rw y (closes q)
 
   -- a byte that was taken from its source
-  byte_sim : (x : ℕ) → Sim (M.scan_byte r (get_or T x 0) x heads (lent l o)) (S.byte L (language T) (meaning T s.quotes x) x s)
+  byte_sim : (x : ℕ) → Sim (M.scan_byte r (sign_of T x) x heads (lent l o)) (S.byte L (language T) (meaning T s.quotes x) x s)
   unfolding meaning
   byte_sim x = go s.quotes refl
     where
-      go : (q : ℕ) → s.quotes ≡ q → Sim (M.scan_byte r (get_or T x 0) x heads (lent l o)) (S.byte L (language T) (meaning T q x) x s)
-      go zero z = rw (le-ltb 0 r.quotes (omega (arith, h.quotes))) (sign_sim z (get_or T x 0) x)
-      go (suc q) z = rw (lt-ltb 0 r.quotes (omega (arith, h.quotes))) (quoted_sim q z (get_or T x 0) x)
+      go : (q : ℕ) → s.quotes ≡ q → Sim (M.scan_byte r (sign_of T x) x heads (lent l o)) (S.byte L (language T) (meaning T q x) x s)
+      go zero z = rw (le-ltb 0 r.quotes (omega (arith, h.quotes))) (sign_sim z (sign_of T x) x)
+      go (suc q) z = rw (lt-ltb 0 r.quotes (omega (arith, h.quotes))) (quoted_sim q z (sign_of T x) x)
 
 module _ {n : ℕ} {heads whole start : List ℕ} {r : Run} {l o : List ℕ} {s : State} (T : Table)
     (h : Represents n built_ins heads whole start r (lent l o) s) (oct : HoldsOctets s) where

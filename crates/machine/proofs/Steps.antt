@@ -38,7 +38,7 @@ steps-ended (suc k) kinds text a out = go a.after.answer out
 -- so many and then more are as many together
 pub steps-add : (j k : ℕ) (kinds text : List ℕ) (a : Indexed) → steps (j + k) kinds text a ≡ steps k kinds text (steps j kinds text a)
 unfolding steps
-steps-add zero k kinds text a = let None : 0 + k ≡ k = omega arith in ap (λ (i : ℕ). steps i kinds text a) None
+steps-add zero k kinds text a = let none : 0 + k ≡ k = omega arith in ap (λ (i : ℕ). steps i kinds text a) none
 steps-add (suc j) k kinds text a =
     let more : suc j + k ≡ suc (j + k) = omega arith in
     ap (λ (i : ℕ). steps i kinds text a) more ∙ go a.after.answer refl (steps-add j k kinds text (step a.after.run kinds text a.heads a.after.lent))

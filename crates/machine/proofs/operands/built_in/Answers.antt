@@ -9,12 +9,13 @@ use borrow.Author.Tests.{ne_eqb}
 use Rattle.memory.specs.Block.{block}
 use Rattle.language.specs.BuiltIns.{built_ins}
 use Rattle.language.specs.Groups.{sum, group, of_group}
-use Rattle.machine.specs.declared.operands.Named.{Named}
+use Rattle.std.specs.Prelude.{Option}
+use Rattle.language.specs.declared.built_ins.BuiltIn.{BuiltIn}
 use Rattle.machine.specs.Walks.{named_among, built_in_named}
 use Rattle.machine.proofs.operands.built_in.Goals as goal
 
 -- only the built-ins of the group of the name are looked at
-of_its_group : (l : List ℕ) (name : ℕ) {count g : ℕ} {r : Named} (k : ℕ) → count ≡ get_or l name 0 → g ≡ group (block (name + 1) count l) → g ≡ k
+of_its_group : (l : List ℕ) (name : ℕ) {count g : ℕ} {r : Option BuiltIn} (k : ℕ) → count ≡ get_or l name 0 → g ≡ group (block (name + 1) count l) → g ≡ k
     → r ≡ named_among l name (of_group k built_ins) → r ≡ built_in_named l name
 of_its_group l name k n e q h = h ∙ rw (← n, ← e, q)
 
@@ -75,5 +76,5 @@ pub returns-in_default : goal.returns-in_default
 unfolding named_among
 returns-in_default c =
     let n = c.in_default.in_default-own.rest in
-    let None = of_no_group c.group-group.result n.0.0.0.0.0.0.0.0.1 n.0.0.0.0.0.0.0.1 n.0.0.0.0.0.0.1 n.0.0.0.0.0.1 n.0.0.0.0.1 n.0.0.0.1 n.0.0.1 n.0.1 n.1 in
-    of_its_group c.args.cells.now c.args.name c.group-group.result c.read-count.ensures c.group-group.ensures.0 refl (rw None)
+    let no_built_in = of_no_group c.group-group.result n.0.0.0.0.0.0.0.0.1 n.0.0.0.0.0.0.0.1 n.0.0.0.0.0.0.1 n.0.0.0.0.0.1 n.0.0.0.0.1 n.0.0.0.1 n.0.0.1 n.0.1 n.1 in
+    of_its_group c.args.cells.now c.args.name c.group-group.result c.read-count.ensures c.group-group.ensures.0 refl (rw no_built_in)

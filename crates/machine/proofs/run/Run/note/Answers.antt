@@ -3,6 +3,7 @@ use Prim.Native.Nat.{◌-◌}
 use mathlib.Core.Path.{◌≡◌}
 use native.Mathlib.Omega.{arith}
 use Rattle.memory.proofs.Blocks.{filled_none}
+use Rattle.language.specs.Origins.{rule_number}
 use Rattle.machine.specs.Walks.{cell}
 use Rattle.machine.proofs.run.Run.note.Goals as goal
 
@@ -11,10 +12,10 @@ returns-then-silent c = rw c.if-silent.true
 
 pub returns-then-end-from : goal.returns-then-end-from
 returns-then-end-from c =
-    rw (c.if-silent.false, c.fill.ensures, c.fill-then-end-from.ensures, c.cell.ensures)
+    rw (c.if-silent.false, c.fill.ensures, c.fill-then-end-from.ensures, c.cell.ensures, c.from.ensures)
 
 pub returns-else-end-from : goal.returns-else-end-from
 returns-else-end-from c =
     let a = c.args in
-    let None : a.after.counts.written - a.self.counts.written ≡ 0 = omega arith in
-    rw (c.if-silent.false, None, filled_none a.self.counts.written (cell a.after.counts.read) a.origins.now, filled_none a.self.counts.written a.rule a.rules.now)
+    let unwritten : a.after.counts.written - a.self.counts.written ≡ 0 = omega arith in
+    rw (c.if-silent.false, unwritten, filled_none a.self.counts.written (cell a.after.counts.read) a.origins.now, filled_none a.self.counts.written (rule_number a.rule) a.rules.now)

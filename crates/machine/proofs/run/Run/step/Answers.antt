@@ -32,4 +32,4 @@ returns c =
     let a = c.args in
     c.scan_byte.ensures
     ∙ rw c.passed.ensures
-    (before a.self a.kinds.now a.text.now a.heads.now a.cells.now a.output.now (λ i. (c.type_inv.text i).fits) c.next_byte-next.ensures c.if-next-eq-NOWHERE.false c.kind.ensures)
+    (before a.self a.kinds.now a.text.now a.heads.now a.cells.now a.output.now (λ i. (c.type_inv.text i).fits) c.next_byte-next.ensures c.if-next-eq-NOWHERE.false c.sign_of.ensures)
