@@ -67,7 +67,7 @@ module _ (g : Asked) where
       let (no0, no34) = refused_with OfLent lent-numbers h in
       record {
         expands = λ e. absurd (subst (λ (j : ℕ). So (not (eqb j Outcomes.finished))) e no0);
-        None = (λ e. absurd (subst (λ (j : ℕ). So (not (eqb j Outcomes.no_script))) e no34), λ p. let q = p.0 in let z : ◌≡◌ {A = ℕ} 0 1 = cc in absurd (omega arith));
+        none = (λ e. absurd (subst (λ (j : ℕ). So (not (eqb j Outcomes.no_script))) e no34), λ p. let q = p.0 in let z : ◌≡◌ {A = ℕ} 0 1 = cc in absurd (omega arith));
       }
 
   -- one that passes these: by its own checks
@@ -75,7 +75,7 @@ module _ (g : Asked) where
     unmatched_refused : matched g.table g.wanted ≡ false → Promised g (answered_by (Some Outcomes.no_script) g)
     unmatched_refused u = record {
       expands = λ e. absurd (omega (arith, e));
-      None = (λ e. (passes, (none_exactly g.table (lent_accepted passes) g.wanted oct).0 u), λ p. refl);
+      none = (λ e. (passes, (none_exactly g.table (lent_accepted passes) g.wanted oct).0 u), λ p. refl);
     }
 
     -- bytes with matched quotes have a script
@@ -85,7 +85,7 @@ module _ (g : Asked) where
     short_refused : matched g.table g.wanted ≡ true → Promised g (answered_by (Some Outcomes.no_output_left) g)
     short_refused m = record {
       expands = λ e. absurd (omega (arith, e));
-      None = (λ e. absurd (omega (arith, e)), λ p. absurd (has_script m p.1));
+      none = (λ e. absurd (omega (arith, e)), λ p. absurd (has_script m p.1));
     }
 
     writes : matched g.table g.wanted ≡ true → Promised g (answered_by None g)
@@ -94,7 +94,7 @@ module _ (g : Asked) where
         let e : take (length t) (t ++ drop (length t) g.output) ≡ t = take_at t (drop (length t) g.output) (length t) refl in
         record {
           expands = λ _ n h. rw e (script_expands g.table (lent_accepted passes) g.wanted (is_matched g.table g.wanted m) built_ins n h);
-          None = (λ e. absurd (omega (arith, e)), λ p. absurd (has_script m p.1));
+          none = (λ e. absurd (omega (arith, e)), λ p. absurd (has_script m p.1));
         }
 
     own_checks : Promised g (answered_by (refused_by (script_refusals g)) g)

@@ -4,7 +4,6 @@ use Prim.Native.String.{String}
 use mathlib.Core.Path.{◌≡◌, refl}
 use mathlib.Core.Bool.{Bool, true, false, cond, ◌&&◌}
 use mathlib.Core.List.{List, [], ◌∷◌}
-use Rattle.std.specs.Prelude.{option_and_then}
 use lib.ListN.{take}
 use lib.Dec.{eqb}
 use Rattle.language.specs.Signs.{Bytes, ascii, Table, standard}

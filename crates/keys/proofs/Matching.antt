@@ -1,40 +1,18 @@
--- How far the search for a quote that is not matched has come.
-use Prim.Native.Nat.{ℕ, zero, suc, ◌+◌, ◌-◌, ◌≤◌, ◌<◌}
+-- How far the reading of the quotes has come.
+use Prim.Native.Nat.{ℕ, zero, suc, ◌+◌, ◌≤◌, ◌<◌}
 use native.Mathlib.Omega.{arith}
-use mathlib.Core.Path.{◌≡◌, refl, ap, ◌∙◌}
-use mathlib.Core.Bool.{Bool, true, false, cond}
-use Rattle.std.specs.Prelude.{Option, Some}
+use mathlib.Core.Path.{◌≡◌, ap, ◌∙◌}
+use Rattle.std.specs.Prelude.{Option, None, Some}
 use Rattle.std.specs.Prelude.{option_and_then}
 use lib.ListN.{length, drop, get_or, drop_of_length-le}
 use lib.Seq.{drop-cons}
-use lib.Dec.{eqb}
 use Rattle.language.specs.declared.signs.Sign.{Sign}
 use Rattle.language.specs.declared.signs.Sign.TheVariants.{Plain, Dollar, Comma, Semicolon, Tilde, Quote, Unquote}
-use Rattle.language.specs.Signs.{Bytes, Table, sign_of_kind, sign_of}
+use Rattle.language.specs.Signs.{Bytes, Table, sign_of}
 use Rattle.language.specs.Matched.{depth_by, depth_after}
 use Rattle.language.proofs.Quotes.{none_some}
-use Rattle.keys.specs.Scripts.{quote_kind, unquote_kind, closed, matched}
 
 -- Depths ---------------------------------------------------------------------------------------------------------------
-
--- a byte that is no quote and no unquote leaves the depth
-pub depth_other : (kind d : ℕ) → eqb kind quote_kind ≡ false → eqb kind unquote_kind ≡ false → depth_by (sign_of_kind kind) d ≡ Some d
-depth_other kind d five six = rw (five, six) (go (eqb kind 1) (eqb kind 2) (eqb kind 3) (eqb kind 4))
-  where
-    go : (a b c e : Bool) → depth_by (cond a Dollar (cond b Comma (cond c Semicolon (cond e Tilde Plain)))) d ≡ Some d
-    go true b c e = refl
-    go false true c e = refl
-    go false false true e = refl
-    go false false false true = refl
-    go false false false false = refl
-
--- a quote opens one more, and an unquote closes one
-pub depth_quote : (kind d : ℕ) → kind ≡ quote_kind → depth_by (sign_of_kind kind) d ≡ Some (d + 1)
-depth_quote kind d e = ap (λ (k : ℕ). depth_by (sign_of_kind k) d) e ∙ ap Some (omega arith)
-
-pub depth_unquote : (kind d : ℕ) → kind ≡ unquote_kind → 0 < d → depth_by (sign_of_kind kind) d ≡ Some (d - 1)
-depth_unquote kind zero e h = absurd (omega arith)
-depth_unquote kind (suc d) e h = ap (λ (k : ℕ). depth_by (sign_of_kind k) (suc d)) e ∙ ap Some (omega arith)
 
 -- a byte makes it deeper by one at most
 depth_grows : (g : Sign) (d k : ℕ) → depth_by g d ≡ Some k → k ≤ suc d
@@ -54,9 +32,6 @@ pub record Matching (T : Table) (wanted : Bytes) (done depth : ℕ) : Type 0 whe
   pub rest : depth_after T 0 wanted ≡ depth_after T depth (drop done wanted)
 
 module _ {T : Table} {wanted : Bytes} where
-  pub matching_start : Matching T wanted 0 0
-  matching_start = record { inside = omega arith; below = omega arith; rest = refl }
-
   -- the next byte, and the rest behind it
   matching_next : {done depth : ℕ} → Matching T wanted done depth → done < length wanted
       → depth_after T 0 wanted ≡ option_and_then (λ k. depth_after T k (drop (suc done) wanted)) (depth_by (sign_of T (get_or wanted done 0)) depth)
@@ -75,10 +50,10 @@ module _ {T : Table} {wanted : Bytes} where
       })
 
   -- an unquote where nothing is open
-  pub matching_lost : {done : ℕ} → Matching T wanted done 0 → done < length wanted → sign_of T (get_or wanted done 0) ≡ Unquote → matched T wanted ≡ false
-  matching_lost {done} r h e =
-      ap closed (matching_next r h ∙ ap (λ (g : Sign). option_and_then (λ k. depth_after T k (drop (suc done) wanted)) (depth_by g 0)) e)
+  pub matching_lost : {done depth : ℕ} → Matching T wanted done depth → done < length wanted → depth_by (sign_of T (get_or wanted done 0)) depth ≡ None
+      → depth_after T 0 wanted ≡ None
+  matching_lost {done} r h e = matching_next r h ∙ ap (λ (o : Option ℕ). option_and_then (λ k. depth_after T k (drop (suc done) wanted)) o) e
 
-  pub matching_end : {done depth : ℕ} → Matching T wanted done depth → length wanted ≤ done → matched T wanted ≡ eqb depth 0
+  pub matching_end : {done depth : ℕ} → Matching T wanted done depth → length wanted ≤ done → depth_after T 0 wanted ≡ Some depth
   unfolding depth_after
-  matching_end {done} {depth} r h = ap closed (r.rest ∙ ap (depth_after T depth) (drop_of_length-le wanted {i = done} h))
+  matching_end {done} {depth} r h = r.rest ∙ ap (depth_after T depth) (drop_of_length-le wanted {i = done} h)

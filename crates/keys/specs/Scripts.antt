@@ -1,6 +1,7 @@
 -- Document 02, Six: a script for given keys.
 use Rattle.std.specs.Prelude.{ℕ, zero, suc, ◌+◌, ◌*◌, ◌≤◌, ◌≡◌, Bool, true, false, cond, ◌||◌, not, List, [], ◌∷◌, ◌++◌, ◌↔◌, length, take, eqb, ltb}
-use Rattle.std.specs.Prelude.{Option, None, Some}
+use Rattle.std.specs.Prelude.{Option, None, Some, Result, Ok, Err}
+use Rattle.language.specs.declared.outcomes.Outcome.{Outcome}
 use Rattle.language.specs.Signs.{Bytes, Table, language, output_limit}
 use Rattle.language.specs.Outcomes
 use Rattle.language.specs.Outcomes.{finishes}
@@ -13,7 +14,6 @@ use Rattle.language.specs.Scanning.{no_limits, run}
 use Rattle.language.specs.Matched.{depth_after}
 use Rattle.language.specs.Octets.{Octets}
 use Rattle.language.specs.Expansion.{Lent, overwritten}
-use Rattle.keys.specs.declared.ScriptReport.{ScriptReport}
 
 -- "The call takes wanted bytes, up to 65,534, and an output": and the table of kinds of "the signs in force"
 pub record Asked : Type 0 where
@@ -30,9 +30,10 @@ pub record Answered : Type 0 where
   pub length : ℕ
   pub output : Bytes
 
--- the code's report, and the final content of the output
-abbrev pub answered_in : ScriptReport → Bytes → Answered
-answered_in r output = record { outcome = r.outcome; length = r.length; output = output }
+-- what the code gives back, the script's length or a refusal, and the final content of the output
+abbrev pub answered_in : Result ℕ Outcome → Bytes → Answered
+answered_in (Ok length) output = record { outcome = Outcomes.finished; length = length; output = output }
+answered_in (Err outcome) output = record { outcome = Outcomes.number_of outcome; length = 0; output = output }
 
 -- The script -----------------------------------------------------------------------------------------------------------
 
@@ -139,7 +140,7 @@ pub record Promised (g : Asked) (x : Answered) : Type 0 where
       → run no_limits (language g.table) allowance (take x.length x.output) built_ins ≡ script_end g.wanted built_ins
   -- "It answers that there is none precisely when no script of any length finishes with those bytes as its output", behind the
   -- checks of what is lent
-  pub None : (x.outcome ≡ Outcomes.no_script) ↔ ((refused_by (lent_refusals g) ≡ None) × NoScript g.table g.wanted)
+  pub none : (x.outcome ≡ Outcomes.no_script) ↔ ((refused_by (lent_refusals g) ≡ None) × NoScript g.table g.wanted)
 
 -- What the call gives back: the first check that holds or the script, and what is promised of it.
 abbrev pub Scripted : Asked → Answered → Type 0

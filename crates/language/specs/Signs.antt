@@ -29,6 +29,16 @@ sign_of_kind k =
     (cond (eqb k 5) Quote
     (cond (eqb k 6) Unquote Plain)))))
 
+-- and the kind of a sign
+abbrev pub kind_of : Sign → ℕ
+kind_of Plain = 0
+kind_of Dollar = 1
+kind_of Comma = 2
+kind_of Semicolon = 3
+kind_of Tilde = 4
+kind_of Quote = 5
+kind_of Unquote = 6
+
 abbrev pub sign_of : Table → ℕ → Sign
 sign_of T b = sign_of_kind (get_or T b 0)
 
