@@ -25,7 +25,9 @@ use Rattle.language.specs.Demand.{Demand3, Substitutes, Expanded}
 use Rattle.language.proofs.Accepted.{lent_accepted, accepted_exactly}
 use Rattle.language.proofs.Demand.{built_ins_free, demand3, substitutes}
 use Rattle.machine.specs.declared.run.Stepped.{Stepped}
-use Rattle.machine.specs.Machine.{fresh, last_scan}
+use Rattle.machine.specs.declared.run.Answer.{Answer}
+use Rattle.machine.specs.declared.run.Answer.TheVariants.{GoesOn, Ended, Damaged, Refused}
+use Rattle.machine.specs.Machine.{fresh, last_scan, outcome_in}
 use Rattle.machine.specs.Index.{no_heads}
 use Rattle.machine.specs.Held.{next_position, next_list, definition_at, definitions_held_from, shown, standing_of, Shows}
 use Rattle.machine.specs.Moving.{Comes, Moves}
@@ -79,6 +81,13 @@ module _ (g : Given) (st : Stepped) (m : Lent) (from : g.definitions ≡ built_i
     left = subst (λ (x : End). m.output ≡ overwritten x.output g.lent.output) (sym came) h.wrote.output;
   }
 
+-- what a run that ended is reported with
+ended_with : (x : Answer) {n : ℕ} → outcome_in x ≡ Some n → outcome_of x ≡ n
+ended_with GoesOn e = cc
+ended_with (Ended outcome) e = cc
+ended_with Damaged e = cc
+ended_with Refused e = cc
+
 pub ran : (T : Table) (text : Bytes) (allowance : ℕ) (m : Lent) (st : Stepped) (h' : List ℕ) (m' : Lent)
     → Moves T text allowance (fresh (length m.cells)) (no_heads groups) m st h' m' → length m.cells ≤ cells_limit → Octets text → allowance ≤ last_scan
     → Ran (given T text m allowance) st m'
@@ -94,7 +103,7 @@ ran T text allowance m st h' m' h small oct fits =
     go : (t : Step) → Comes h' text m.output st m' t
         → (outcome_of st.answer ≡ (S.end_of t).outcome) × Shows built_ins m.output st.run m' (standing_of (S.end_of t))
     go (next s) (e, y) = (rw e, state_shown y.represents)
-    go (stop e) y = (rw y.answer, y.shows)
+    go (stop e) y = (ended_with st.answer y.answer, y.shows)
 
 -- The report ---------------------------------------------------------------------------------------------------------
 

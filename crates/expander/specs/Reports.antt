@@ -27,7 +27,7 @@ refused_with outcome = record { outcome = outcome; read = 0; written = 0; scans 
 -- the outcome for each answer of the machine; the last two a run from a fresh standing never has
 abbrev pub outcome_of : Answer → ℕ
 outcome_of GoesOn = Outcomes.no_scans_left
-outcome_of (Ended outcome) = outcome
+outcome_of (Ended outcome) = Outcomes.number_of outcome
 outcome_of Damaged = Outcomes.no_cells_left
 outcome_of Refused = Outcomes.no_cells_left
 

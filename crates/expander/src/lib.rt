@@ -1,9 +1,9 @@
 // Strachey's macrogenerator in lent memory: the public calls over the machine's one call.
 #![tactic(auto)]
 
-ghost use Rattle.std.specs.Prelude.{◌≡◌, ◌≤◌, length};
-ghost use Rattle.std.specs.Prelude.{None};
+ghost use Rattle.std.specs.Prelude.{◌≡◌, ◌≤◌, length, None};
 ghost use Rattle.language.specs.Signs.{standard, text_limit, cells_limit};
+ghost use Rattle.language.specs.Outcomes.{number_of};
 ghost use Rattle.language.specs.Refusals.{refused_by};
 ghost use Rattle.language.specs.Expansion.{lent, given, refusals, expanded};
 ghost use Rattle.language.specs.Demand.{Expanded};
@@ -11,14 +11,14 @@ ghost use Rattle.language.specs.Origins.{numbers, given_with, returned_with, Exp
 ghost use Rattle.keys.specs.Scripts.{asked, Numbered};
 ghost use Rattle.expander.specs.Reports.{outcome_of, report_of, refused_with, returned, Ran, NotedIn};
 
-use language::refusals::Verdict;
-use language::{Sizes, outcomes, rules};
+use language::outcomes::Outcome;
+use language::{Sizes, refusals, rules};
 use machine::index;
 use machine::run::{Answer, Run, Stepped};
 
 // What a run reports, in document 01's order: for Rattle and for C.
 #[repr(C)]
-#[derive(Clone, Copy)]
+#[derive(Clone, Copy, Debug, PartialEq, Eq)]
 pub struct Report {
     pub outcome: u64,
     pub read: u64,
@@ -33,12 +33,10 @@ pub struct Report {
 pub fn expand(text: &[u8], cells: &mut [u32], output: &mut [u8], allowance: u64) -> Report
     ensures { Expanded (given standard text.now (lent cells.old output.old) allowance) (returned result (lent cells.new output.new)) }
 {
-    let sizes = sizes_of(text, cells, output);
-    if sizes.too_large() {
-        return Report::refused(outcomes::TOO_LARGE);
+    if sizes_of(text, cells, output).too_large() {
+        return Report::refused(Outcome::TooLarge);
     }
-    let kinds = language::standard_kinds();
-    expand_unnoted(&kinds, text, cells, output, allowance)
+    expand_unnoted(&language::standard_kinds(), text, cells, output, allowance)
 }
 
 // The same with the caller's own signs: a table of 256 kinds in place of the standard one.
@@ -51,13 +49,10 @@ pub fn expand_signs(
 ) -> Report
     ensures { Expanded (given signs.now text.now (lent cells.old output.old) allowance) (returned result (lent cells.new output.new)) }
 {
-    let sizes = sizes_of(text, cells, output);
-    let verdict = Verdict::on_lent(sizes, signs);
-    if let Verdict::Refused(outcome) = verdict {
-        return Report::refused(outcome);
+    match refusals::on_lent(sizes_of(text, cells, output), signs) {
+        Ok(()) => expand_unnoted(&kinds_of(signs), text, cells, output, allowance),
+        Err(outcome) => Report::refused(outcome),
     }
-    let kinds = kinds_of(signs);
-    expand_unnoted(&kinds, text, cells, output, allowance)
 }
 
 // The same, and for each byte of the output the bytes of the text read by then and the rule that wrote it.
@@ -72,49 +67,14 @@ pub fn expand_origins(
 ) -> Report
     ensures { ExpandedOrigins (given_with (given signs.now text.now (lent cells.old output.old) allowance) (numbers origins.old rules.old)) (returned_with (returned result (lent cells.new output.new)) (numbers origins.new rules.new)) }
 {
-    let sizes = sizes_of(text, cells, output);
-    let earlier = Verdict::on_lent(sizes, signs);
-    if let Verdict::Refused(refusal) = earlier {
-        return Report::refused(refusal);
+    if let Err(earlier) = refusals::on_lent(sizes_of(text, cells, output), signs) {
+        return Report::refused(earlier);
     }
     if rules::too_short(origins, rules, output) {
-        return Report::refused(outcomes::NUMBERS_TOO_SHORT);
+        return Report::refused(Outcome::NumbersTooShort);
     }
     let kinds = kinds_of(signs);
     expand_accepted(&kinds, text, cells, output, origins, rules, allowance)
-}
-
-// What C callers are given: the calls of the same names in expander_c are these.
-pub fn gpm_expand(text: &[u8], cells: &mut [u32], output: &mut [u8], allowance: u64) -> Report
-    ensures { Expanded (given standard text.now (lent cells.old output.old) allowance) (returned result (lent cells.new output.new)) }
-{
-    expand(text, cells, output, allowance)
-}
-
-pub fn gpm_expand_signs(
-    signs: &[u8],
-    text: &[u8],
-    cells: &mut [u32],
-    output: &mut [u8],
-    allowance: u64,
-) -> Report
-    ensures { Expanded (given signs.now text.now (lent cells.old output.old) allowance) (returned result (lent cells.new output.new)) }
-{
-    expand_signs(signs, text, cells, output, allowance)
-}
-
-pub fn gpm_expand_origins(
-    signs: &[u8],
-    text: &[u8],
-    cells: &mut [u32],
-    output: &mut [u8],
-    origins: &mut [u32],
-    rules: &mut [u32],
-    allowance: u64,
-) -> Report
-    ensures { ExpandedOrigins (given_with (given signs.now text.now (lent cells.old output.old) allowance) (numbers origins.old rules.old)) (returned_with (returned result (lent cells.new output.new)) (numbers origins.new rules.new)) }
-{
-    expand_origins(signs, text, cells, output, origins, rules, allowance)
 }
 
 // For a recorder of keys: a script for the wanted bytes with the standard signs, and the outcome and the script's length in one
@@ -122,9 +82,10 @@ pub fn gpm_expand_origins(
 pub fn gpm_script(wanted: &[u8], output: &mut [u8]) -> u64
     ensures { Numbered (asked standard wanted.now output.old) result output.new }
 {
-    let kinds = language::standard_kinds();
-    let script = keys::script_for(&kinds, wanted, output);
-    script.outcome as u64 * 4294967296 + script.length as u64
+    match keys::script_for(&language::standard_kinds(), wanted, output) {
+        Ok(length) => u64::from(length),
+        Err(outcome) => u64::from(u32::from(outcome)) * 4294967296,
+    }
 }
 
 // What is measured against the limits.
@@ -186,7 +147,7 @@ fn kinds_of(signs: &[u8]) -> [u8; 256]
     ensures { result ≡ signs.now }
 {
     let mut kinds = [0; 256];
-    memory::copy_bytes(signs, &mut kinds, 0, 256);
+    kinds.copy_from_slice(signs);
     kinds
 }
 
@@ -213,11 +174,11 @@ fn run_to_end(
 
 impl Report {
     // "all counts 0"
-    fn refused(outcome: u32) -> Report
-        ensures { result ≡ refused_with outcome }
+    fn refused(outcome: Outcome) -> Report
+        ensures { result ≡ refused_with (number_of outcome) }
     {
         Report {
-            outcome: outcome as u64,
+            outcome: u64::from(u32::from(outcome)),
             read: 0,
             written: 0,
             scans: 0,
@@ -230,9 +191,8 @@ impl Report {
         ensures { result ≡ report_of st }
     {
         let run = st.run;
-        let answer = st.answer;
         Report {
-            outcome: outcome_of(answer) as u64,
+            outcome: u64::from(u32::from(outcome_of(st.answer))),
             read: run.counts.read as u64,
             written: run.counts.written as u64,
             scans: run.counts.scans,
@@ -243,13 +203,12 @@ impl Report {
 }
 
 // A run that goes on has no scan left. The last two answers a run from a fresh standing never has.
-fn outcome_of(answer: Answer) -> u32
-    ensures { result ≡ outcome_of answer }
+fn outcome_of(answer: Answer) -> Outcome
+    ensures { number_of result ≡ outcome_of answer }
 {
     match answer {
-        Answer::GoesOn => outcomes::NO_SCANS_LEFT,
+        Answer::GoesOn => Outcome::NoScansLeft,
         Answer::Ended(outcome) => outcome,
-        Answer::Damaged => outcomes::NO_CELLS_LEFT,
-        Answer::Refused => outcomes::NO_CELLS_LEFT,
+        Answer::Damaged | Answer::Refused => Outcome::NoCellsLeft,
     }
 }

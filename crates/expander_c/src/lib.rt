@@ -19,7 +19,7 @@ pub extern "C" fn gpm_expand(
 ) -> Report
     ensures { Expanded (given standard text.now (lent cells.old output.old) allowance) (returned result (lent cells.new output.new)) }
 {
-    expander::gpm_expand(text, cells, output, allowance)
+    expander::expand(text, cells, output, allowance)
 }
 
 #[unsafe(no_mangle)]
@@ -32,7 +32,7 @@ pub extern "C" fn gpm_expand_signs(
 ) -> Report
     ensures { Expanded (given signs.now text.now (lent cells.old output.old) allowance) (returned result (lent cells.new output.new)) }
 {
-    expander::gpm_expand_signs(signs, text, cells, output, allowance)
+    expander::expand_signs(signs, text, cells, output, allowance)
 }
 
 #[unsafe(no_mangle)]
@@ -47,7 +47,7 @@ pub extern "C" fn gpm_expand_origins(
 ) -> Report
     ensures { ExpandedOrigins (given_with (given signs.now text.now (lent cells.old output.old) allowance) (numbers origins.old rules.old)) (returned_with (returned result (lent cells.new output.new)) (numbers origins.new rules.new)) }
 {
-    expander::gpm_expand_origins(signs, text, cells, output, origins, rules, allowance)
+    expander::expand_origins(signs, text, cells, output, origins, rules, allowance)
 }
 
 // For a recorder of keys: a script for the wanted bytes with the standard signs, and the outcome and the script's length in one

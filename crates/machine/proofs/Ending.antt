@@ -8,7 +8,6 @@ use lib.ListN.{length, take, drop, get_or, length-append}
 use lib.Seq.{get_or-take, take-take, take_at, drop_at, drop-drop, length-take-le}
 use lib.Dec.{eqb, ltb}
 use borrow.Author.Tests.{le-ltb, eq-eqb, ne_eqb, ltb-false}
-use Rattle.language.specs.Outcomes
 use Rattle.language.specs.Signs.{Bytes}
 use Rattle.language.specs.Definitions.{Definition, newer, oldest, without}
 use Rattle.language.specs.Charge.{arguments_price, list_price, definitions_price}

@@ -10,7 +10,6 @@ use lib.Seq.{get_or-drop}
 use lib.Dec.{leb, ltb}
 use borrow.Author.Tests.{le-leb, lt-leb, ne_eqb, leb-true, ltb-true, ltb-false}
 use Rattle.decimal.specs.Operand.{is_digit}
-use Rattle.language.specs.Outcomes
 use Rattle.language.specs.Signs.{Bytes, Table, parameter_digit, parameter_number, language}
 use Rattle.language.specs.Definitions.{Definition}
 use Rattle.language.specs.BuiltIns.{parameter}

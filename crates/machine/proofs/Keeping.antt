@@ -11,7 +11,6 @@ use borrow.Author.Tests.{ltb-false, leb-false, eqb-false}
 use Rattle.language.specs.declared.built_ins.BuiltIn.{BuiltIn}
 use Rattle.language.specs.declared.built_ins.BuiltIn.TheVariants.{Def, Val, Update, Arithmetic, Seq, Size, If, Lock}
 use Rattle.language.specs.Signs.{cells_limit, sign_of}
-use Rattle.language.specs.Outcomes
 use Rattle.language.specs.BuiltIns as B
 use Rattle.language.specs.Charge.{open_price}
 use Rattle.language.specs.Expansion.{Lent}

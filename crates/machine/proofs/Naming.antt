@@ -2,22 +2,19 @@
 use Prim.Native.Nat.{ℕ, ◌+◌, ◌≤◌}
 use native.Mathlib.Omega.{arith}
 use mathlib.Core.Path.{◌≡◌, refl, ap, ◌∙◌}
-use mathlib.Core.Bool.{Bool, true, false, cond, ◌&&◌}
+use mathlib.Core.Bool.{Bool, true, false, cond}
 use mathlib.Core.List.{List, [], ◌∷◌}
-use Rattle.std.specs.Prelude.{Option, None, Some}
+use Rattle.std.specs.Prelude.{Option, None}
 use lib.ListN.{length, get_or}
-use lib.Dec.{eqb}
-use lib.IntN.{ℤ}
 use borrow.Author.Tests.{le-leb}
 use Rattle.memory.specs.Block.{block, same}
 use Rattle.memory.proofs.Blocks.{same_bytes_in}
 use Rattle.decimal.specs.declared.operations.Operation.{Operation}
-use Rattle.decimal.specs.Operand.{operand, in_range}
-use Rattle.decimal.specs.Arithmetic.{divides, is_zero, exact, of_operands, calculated}
+use Rattle.decimal.specs.Operand.{operand}
+use Rattle.decimal.specs.Arithmetic.{calculated}
 use Rattle.decimal.specs.Answers.{answer_of}
 use Rattle.language.specs.declared.built_ins.BuiltIn.{BuiltIn}
 use Rattle.language.specs.Signs.{Bytes}
-use Rattle.language.specs.Outcomes
 use Rattle.language.specs.Definitions.{Content, macro, built_in, Definition, Found, found, missing, newest, counts, live}
 use Rattle.language.specs.Definitions as D
 use Rattle.language.specs.Groups.{group, of_group, content_of}

@@ -9,7 +9,6 @@ use lib.ListN.{length, take, drop, get_or, set, length-append, length-set, take-
 use lib.Seq.{set_at, take_at, drop-set-lt, drop-cons, get_or-append-add}
 use lib.Dec.{eqb, ltb}
 use borrow.Author.Tests.{lt-ltb, le-ltb, eq-eqb, ne_eqb}
-use Rattle.language.specs.Outcomes
 use Rattle.language.specs.Signs.{Bytes}
 use Rattle.language.specs.Definitions.{Definition}
 use Rattle.language.specs.Charge.{arguments_price, open_price, definitions_price}

@@ -6,8 +6,8 @@ ghost use Rattle.machine.specs.Machine.{Marked, Resulting, leaves, leaves_indexe
 
 use crate::run::{Answer, Calls, Run, Stepped};
 use crate::{index, layout, lookup, operands};
-use language::built_ins::BuiltIn;
 use language::Sizes;
+use language::built_ins::BuiltIn;
 use language::outcomes::Outcome;
 
 impl Run {

@@ -5,24 +5,24 @@ use Rattle.language.specs.Expansion.{lent, given}
 use Rattle.expander.proofs.Running.{refuses, delivers, signs_fit}
 use Rattle.expander.proofs.expand_signs.Goals as goal
 
-pub returns-in-Refused : goal.returns-in-Refused
-returns-in-Refused c =
+pub returns-in-Err : goal.returns-in-Err
+returns-in-Err c =
     let a = c.args in
     let g = given a.signs.now a.text.now (lent a.cells.now a.output.now) a.allowance in
-    rw c.refused.ensures (delivers g refl _ (refuses g _ (sym (rw c.sizes_of-sizes.ensures at c.on_lent-verdict.ensures) ∙ ap refusal_in c.in-Refused.is)))
+    rw c.refused.ensures (delivers g refl _ (refuses g _ (sym (rw c.sizes_of.ensures at c.on_lent.ensures) ∙ ap refusal_in c.in-Err.is)))
 
-pub kinds_of-kinds-requires : goal.kinds_of-kinds-requires
-kinds_of-kinds-requires c =
+pub kinds_of-requires : goal.kinds_of-requires
+kinds_of-requires c =
     let a = c.args in
     let g = given a.signs.now a.text.now (lent a.cells.now a.output.now) a.allowance in
-    signs_fit g (sym (rw c.sizes_of-sizes.ensures at c.on_lent-verdict.ensures) ∙ ap refusal_in c.in_default.is)
+    signs_fit g (sym (rw c.sizes_of.ensures at c.on_lent.ensures) ∙ ap refusal_in c.in-Ok.is)
 
 pub expand_unnoted-requires : goal.expand_unnoted-requires
 expand_unnoted-requires c =
-    rw c.kinds_of-kinds.ensures (sym (rw c.sizes_of-sizes.ensures at c.on_lent-verdict.ensures) ∙ ap refusal_in c.in_default.is)
+    rw c.kinds_of.ensures (sym (rw c.sizes_of.ensures at c.on_lent.ensures) ∙ ap refusal_in c.in-Ok.is)
 
-pub returns : goal.returns
-returns c =
+pub returns-in-Ok : goal.returns-in-Ok
+returns-in-Ok c =
     let a = c.args in
     let g = given a.signs.now a.text.now (lent a.cells.now a.output.now) a.allowance in
-    delivers g refl _ (rw c.kinds_of-kinds.ensures at c.expand_unnoted.ensures)
+    delivers g refl _ (rw c.kinds_of.ensures at c.expand_unnoted.ensures)

@@ -2,5 +2,4 @@
 use Rattle.expander.proofs.Report.of.Goals as goal
 
 pub returns : goal.returns
-returns c =
-    rw c.outcome_of.ensures
+returns c = rw (← c.outcome_of.ensures, ← c.from.ensures, c.from-2.ensures)
