@@ -18,7 +18,7 @@ use machine::run::{Answer, Run, Stepped};
 
 // What a run reports, in document 01's order: for Rattle and for C.
 #[repr(C)]
-#[derive(Clone, Copy)]
+#[derive(Clone, Copy, PartialEq, Eq, Debug)]
 pub struct Report {
     pub outcome: u64,
     pub read: u64,
