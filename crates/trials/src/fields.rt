@@ -1,5 +1,5 @@
 // Fields between tabs, and decimal numbers.
-ghost use Rattle.std.specs.Prelude.{◌<◌};
+ghost use Rattle.std.specs.Prelude.{◌+◌, ◌^◌, ◌<◌};
 
 // What stands before the first such byte, or all.
 pub(crate) fn up_to(text: &[u8], byte: u8) -> &[u8] {
@@ -8,7 +8,7 @@ pub(crate) fn up_to(text: &[u8], byte: u8) -> &[u8] {
 
 // The field with this number, counted from 0, and those behind it.
 pub(crate) fn from(row: &[u8], number: usize) -> &[u8]
-    requires { number < 65536 }
+    requires { number + 1 < 2 ^ 64 }
 {
     row.splitn(number + 1, |byte| *byte == b'\t')
         .nth(number)

@@ -144,7 +144,7 @@ fn cells_are_right(cells: &[u32; CELLS_ROOM], lent: usize, outcome: u64) -> bool
 
 // Whether what lies around the first so many elements behind the margin is as before.
 pub(crate) fn is_around<T: PartialEq>(room: &[T], before: &[T], len: usize) -> bool
-    requires { 32 + len ≤ length before.now }
+    requires { MARGIN + len ≤ length before.now }
 {
     let (margin, _) = before.split_at(MARGIN);
     room.starts_with(margin) && room.ends_with(&before[MARGIN + len..])
