@@ -8,7 +8,7 @@
 // to say so.
 #![tactic(auto)]
 
-ghost use Rattle.std.specs.Prelude.{◌+◌, ◌<◌, ◌≤◌, ◌≡◌, ◌++◌, ◌↔◌, false, length, take, IsErrAnd, IsTrue};
+ghost use Rattle.std.specs.Prelude.{◌+◌, ◌<◌, ◌≤◌, ◌≡◌, ◌++◌, ◌↔◌, length, take, IfOk, IsErrAnd, IsTrue, MatchResult};
 ghost use Rattle.std.specs.IoError.{error_kind};
 ghost use Rattle.std.specs.Io.{ReadsAtMost};
 ghost use Rattle.std.specs.Io.KnownBytes.{Consumes, IsAtEnd, ReadConsumes};
@@ -38,40 +38,39 @@ const LINE: usize = 126;
 // How often in a row a read may be interrupted before it counts as failed.
 const TRIES: u32 = 1000000;
 
-#[derive(Drop)]
-struct Input {
+// A read that failed, and how much of the text the reads before it gave.
+#[derive(Clone, Copy, Debug)]
+struct ReadFailed {
     len: usize,
-    failed: bool,
 }
 
 fn main(rt: HostRuntime) {
     let mut text = [0u8; ROOM];
-    let input = read_input(&mut rt.stdin(), &mut text);
-    if input.failed {
-        write_report(nothing_lent());
-        io::write_all(STANDARD_ERROR, b"read failed\n");
-        return;
+    match read_input(&mut rt.stdin(), &mut text) {
+        Ok(len) => run(&text[..len]),
+        Err(_) => {
+            write_report(nothing_lent());
+            io::write_all(STANDARD_ERROR, b"read failed\n");
+        }
     }
-    let len = input.len;
-    run(&text[..len]);
 }
 
 // Reads until the input ends, a read fails or the text is full. The text then begins with what the reads gave, and that is
 // all of the input where no read failed and there is room left.
-fn read_input<R: Read>(from: &mut R, text: &mut [u8]) -> Input
-    ensures prefix_len { IsPrefixLen result.len text.new }
-    ensures bytes { Consumes (R.remaining from.old) (R.remaining from.new) (take result.len text.new) }
-    ensures whole { result.failed ≡ false → result.len < length text.old → IsAtEnd (R.remaining from.new) }
+fn read_input<R: Read>(from: &mut R, text: &mut [u8]) -> Result<usize, ReadFailed>
+    ensures prefix_len { MatchResult result (λ len. IsPrefixLen len text.new) (λ failed. IsPrefixLen failed.len text.new) }
+    ensures bytes { MatchResult result (λ len. Consumes (R.remaining from.old) (R.remaining from.new) (take len text.new)) (λ failed. Consumes (R.remaining from.old) (R.remaining from.new) (take failed.len text.new)) }
+    ensures whole { IfOk result (λ len. len < length text.old → IsAtEnd (R.remaining from.new)) }
 {
     let mut len = 0;
     while len < text.len() {
         match read_some(from, &mut text[len..]) {
-            Ok(0) => return Input { len, failed: false },
+            Ok(0) => return Ok(len),
             Ok(more) => len += more,
-            Err(_) => return Input { len, failed: true },
+            Err(_) => return Err(ReadFailed { len }),
         }
     }
-    Input { len, failed: false }
+    Ok(len)
 }
 
 // One read. One that was only interrupted is made again.
@@ -125,12 +124,12 @@ fn run(text: &[u8]) {
 
 // Writes the first so many bytes of the output.
 fn write_output(output: &[u8], written: usize) {
-    if written <= output.len() {
-        if io::write_all(STANDARD_OUTPUT, &output[0..written]) {
-            return;
-        }
+    let is_written = output
+        .get(..written)
+        .is_some_and(|bytes| io::write_all(STANDARD_OUTPUT, bytes));
+    if !is_written {
+        io::write_all(STANDARD_ERROR, b"write failed\n");
     }
-    io::write_all(STANDARD_ERROR, b"write failed\n");
 }
 
 // Writes the report's line by one write.
@@ -146,12 +145,19 @@ fn put_report(line: &mut [u8], report: Report) -> usize
     ensures prefix_len { IsPrefixLen result line.new }
     ensures line_after { take result line.new ≡ report_line report.outcome report.read report.written report.scans report.most report.live }
 {
-    let mut len = put_number(line, 0, report.outcome, b' ');
-    len = put_number(line, len, report.read, b' ');
-    len = put_number(line, len, report.written, b' ');
-    len = put_number(line, len, report.scans, b' ');
-    len = put_number(line, len, report.most, b' ');
-    put_number(line, len, report.live, b'\n')
+    let items = [
+        (report.outcome, b' '),
+        (report.read, b' '),
+        (report.written, b' '),
+        (report.scans, b' '),
+        (report.most, b' '),
+        (report.live, b'\n'),
+    ];
+    let mut len = 0;
+    for (number, end) in items {
+        len = put_number(line, len, number, end);
+    }
+    len
 }
 
 // A number and the byte behind it. The result is where the next one goes.
@@ -163,7 +169,7 @@ fn put_number(line: &mut [u8], at: usize, number: u64, end: u8) -> usize
     let mut digits = [0u8; 20];
     let len = io::decimal(number, &mut digits);
     let last = at + len;
-    memory::copy_bytes(&digits[..len], line, at, len);
-    memory::write_byte(line, last, end);
+    line[at..last].copy_from_slice(&digits[..len]);
+    line[last] = end;
     last + 1
 }

@@ -13,7 +13,6 @@ mod sizes;
 mod tracing;
 mod wanted;
 
-use crate::rows::File;
 use std::fs;
 use std::io::{Cursor, Write};
 use std::os::fd::AsRawFd;
@@ -23,10 +22,10 @@ pub(crate) const STANDARD_OUTPUT: i32 = 1;
 const STANDARD_ERROR: i32 = 2;
 
 fn main(rt: HostRuntime) {
-    try_file(&rt, "scripts.tsv", File::Scripts, b" rows, ");
-    try_file(&rt, "signs.tsv", File::Signs, b" signs, ");
-    try_file(&rt, "origins.tsv", File::Origins, b" origins, ");
-    try_file(&rt, "keys.tsv", File::Keys, b" keys, ");
+    try_file(&rt, "scripts.tsv", b" rows, ", rows::script_is_right);
+    try_file(&rt, "signs.tsv", b" signs, ", rows::signs_are_right);
+    try_file(&rt, "origins.tsv", b" origins, ", rows::origins_are_right);
+    try_file(&rt, "keys.tsv", b" keys, ", rows::keys_are_right);
     let text = [b'x'; sizes::LONGEST];
     let wrong = sizes::try_all(&text);
     count(sizes::RUNS, b" sizes, ", wrong);
@@ -34,7 +33,9 @@ fn main(rt: HostRuntime) {
     count(wanted::CALLS, b" sizes of keys, ", wrong);
 }
 
-fn try_file(rt: &HostRuntime, path: &str, file: File, name: &[u8]) {
+fn try_file<F: Fn(&[u8]) -> Option<bool>>(rt: &HostRuntime, path: &str, name: &[u8], is_right: F)
+    requires { F.IsAlwaysCallable is_right }
+{
     let opened = match fs::open(rt, path) {
         Ok(opened) => opened,
         Err(error) => {
@@ -45,7 +46,7 @@ fn try_file(rt: &HostRuntime, path: &str, file: File, name: &[u8]) {
     let mut text = io::large_buffer();
     let len = io::read_full(opened.as_raw_fd(), &mut text);
     drop(opened);
-    let tried = rows::try_rows(&text[..len], file);
+    let tried = rows::try_rows(&text[..len], is_right);
     count(tried.rows, name, tried.wrong);
 }
 

@@ -1,97 +1,107 @@
 // A trial of a script for given keys: the output is lent as a part of a larger array that holds a pattern, and all of it is
 // looked at afterwards. A script that is written is then expanded in exactly what it needs.
-use crate::lending::Lent;
-use crate::{lending, pattern};
+use crate::lending::{Lent, OUTPUT_ROOM, Run};
+use crate::{fields, lending, pattern};
 use expander::Report;
 use keys::ScriptReport;
 
-// The call that is tried.
+// Keys for which a script is asked, how much output is lent, and the outcome and the script, empty where it is refused, that
+// should come of it. No outcome should come of output that cannot be lent.
 #[derive(Clone, Copy)]
-pub(crate) enum Call {
-    ScriptFor,
-    GpmScript,
+pub(crate) struct Recording<'a> {
+    pub(crate) wanted: &'a [u8],
+    pub(crate) lent: Option<usize>,
+    pub(crate) outcome: Option<u32>,
+    pub(crate) script: &'a [u8],
 }
 
-// Whether a call gives this outcome and this script, empty where it is refused, and leaves all else as it was. The signs are
-// for `ScriptFor` alone.
-pub(crate) fn is_right(
-    call: Call,
-    signs: &[u8],
-    wanted: &[u8],
-    lent: usize,
+// What a call answers.
+#[derive(Clone, Copy)]
+struct Answer {
     outcome: u32,
-    script: &[u8],
-) -> bool {
-    let mut bytes = [0u8; lending::OUTPUT_ROOM];
-    let got = ask(call, signs, wanted, lent, &mut bytes);
-    if got.outcome != outcome || got.length as usize != script.len() {
-        return false;
-    }
-    let mut before = [0u8; lending::OUTPUT_ROOM];
-    pattern::fill_bytes(&mut before);
-    if !lending::output_is_right(&bytes, script, &before) {
-        return false;
-    }
-    if outcome != 0 {
-        return true;
-    }
-    expands(signs, script, wanted)
+    length: usize,
 }
 
-// Fills the array with the pattern and asks for a script in a part of it.
-fn ask(call: Call, signs: &[u8], wanted: &[u8], lent: usize, bytes: &mut [u8]) -> ScriptReport {
-    pattern::fill_bytes(bytes);
-    if lent > lending::MOST_OUTPUT {
-        return nothing();
-    }
-    let end = lending::MARGIN + lent;
-    if end > bytes.len() {
-        return nothing();
-    }
-    let output = &mut bytes[lending::MARGIN..end];
-    match call {
-        Call::ScriptFor => keys::script_for(signs, wanted, output),
-        Call::GpmScript => parts_of(expander::gpm_script(wanted, output)),
+impl From<ScriptReport> for Answer {
+    fn from(report: ScriptReport) -> Answer {
+        Answer {
+            outcome: report.outcome,
+            length: report.length as usize,
+        }
     }
 }
 
 // The outcome and the length that a number stands for.
-fn parts_of(number: u64) -> ScriptReport {
-    ScriptReport {
-        outcome: (number / 4294967296) as u32,
-        length: (number % 4294967296) as u32,
+impl From<u64> for Answer {
+    fn from(number: u64) -> Answer {
+        Answer {
+            outcome: (number / 4294967296) as u32,
+            length: (number % 4294967296) as usize,
+        }
     }
 }
 
-// An answer that no call gives, for what cannot be lent.
-fn nothing() -> ScriptReport {
-    ScriptReport {
-        outcome: u32::MAX,
-        length: 0,
+impl<'a> Recording<'a> {
+    pub(crate) fn in_columns(columns: &'a [u8]) -> Recording<'a> {
+        Recording {
+            wanted: fields::field(columns, 0),
+            lent: fields::number(columns, 1).map(|lent| lent as usize),
+            outcome: fields::number(columns, 2),
+            script: fields::field(columns, 3),
+        }
     }
-}
 
-// Whether the script gives the wanted bytes with no cells, as many bytes of output and three scans more.
-fn expands(signs: &[u8], script: &[u8], wanted: &[u8]) -> bool {
-    let lent = Lent {
-        cells: 0,
-        output: wanted.len(),
-        allowance: wanted.len() as u64 + 3,
-    };
-    let report = Report {
-        outcome: 0,
-        read: script.len() as u64,
-        written: wanted.len() as u64,
-        scans: lent.allowance,
-        most: 0,
-        live: 0,
-    };
-    lending::is_right(
-        lending::Call::ExpandSigns,
-        signs,
-        script,
-        lent,
-        report,
-        wanted,
-    )
+    // Whether `gpm_script` answers as it should, whose signs are the standard ones.
+    pub(crate) fn is_right(self) -> bool {
+        let kinds = language::standard_kinds();
+        self.is_right_by(&kinds, |output| {
+            Answer::from(expander::gpm_script(self.wanted, output))
+        })
+    }
+
+    // Whether `script_for` does.
+    pub(crate) fn is_right_with(self, signs: &[u8]) -> bool {
+        self.is_right_by(signs, |output| {
+            Answer::from(keys::script_for(signs, self.wanted, output))
+        })
+    }
+
+    // Whether a call gives the outcome and the script, and leaves all else as it was.
+    fn is_right_by<F: FnOnce(&mut [u8]) -> Answer>(self, signs: &[u8], call: F) -> bool
+        requires { F.IsAlwaysCallable call }
+    {
+        let mut bytes: [u8; OUTPUT_ROOM] = pattern::bytes();
+        let answer = self
+            .lent
+            .and_then(|lent| lending::part(&mut bytes, lent))
+            .map(call);
+        answer.map(|answer| answer.outcome) == self.outcome
+            && answer.map_or(0, |answer| answer.length) == self.script.len()
+            && lending::output_is_right(&bytes, self.script)
+            && (self.outcome != Some(0) || self.expands(signs))
+    }
+
+    // Whether the script gives the wanted bytes with no cells, as many bytes of output and three scans more.
+    fn expands(self, signs: &[u8]) -> bool {
+        let lent = Lent {
+            cells: 0,
+            output: self.wanted.len(),
+            allowance: self.wanted.len() as u64 + 3,
+        };
+        let report = Report {
+            outcome: 0,
+            read: self.script.len() as u64,
+            written: self.wanted.len() as u64,
+            scans: lent.allowance,
+            most: 0,
+            live: 0,
+        };
+        let run = Run {
+            script: self.script,
+            lent,
+            report,
+            output: self.wanted,
+        };
+        run.is_right_with(signs)
+    }
 }

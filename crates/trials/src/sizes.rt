@@ -1,8 +1,8 @@
 // Runs plain texts of five sizes on cells and output of five sizes each, and writes a line for each run that is wrong.
-ghost use Rattle.std.specs.Prelude.{◌<◌};
+ghost use Rattle.std.specs.Prelude.{◌+◌, ◌<◌, ◌≤◌};
 
-use crate::lending::{Call, Lent};
-use crate::{STANDARD_OUTPUT, lending};
+use crate::STANDARD_OUTPUT;
+use crate::lending::{Lent, Run};
 use expander::Report;
 use language::Sizes;
 
@@ -13,21 +13,25 @@ pub(crate) const RUNS: usize = 125;
 
 // How many of the runs are wrong.
 pub(crate) fn try_all(text: &[u8]) -> usize {
-    let mut wrong = 0;
-    for run in 0..RUNS {
-        let len = size(run / 25, Sizes::TEXT_LIMIT);
-        let cells = size(run / 5 % 5, Sizes::CELLS_LIMIT);
-        let output = size(run % 5, Sizes::OUTPUT_LIMIT);
-        if !is_right(text, len, cells, output) {
-            wrong += 1;
-        }
+    (0..RUNS).filter(|run| is_wrong(text, *run)).count()
+}
+
+// Whether the run with this number is wrong. One that is wrong is named.
+fn is_wrong(text: &[u8], run: usize) -> bool {
+    let len = about(run / 25, Sizes::TEXT_LIMIT);
+    let cells = about(run / 5 % 5, Sizes::CELLS_LIMIT);
+    let output = about(run % 5, Sizes::OUTPUT_LIMIT);
+    if is_right(text, len, cells, output) {
+        return false;
     }
-    wrong
+    name(&[len, cells, output]);
+    true
 }
 
 // None, one, one less than the limit, the limit and one more.
-fn size(number: usize, limit: usize) -> usize
+pub(crate) fn about(number: usize, limit: usize) -> usize
     requires { (0 < limit) × (limit < 4294967296) }
+    ensures { result ≤ limit + 1 }
 {
     match number {
         0 => 0,
@@ -38,38 +42,34 @@ fn size(number: usize, limit: usize) -> usize
     }
 }
 
-// Whether the run of the first so many bytes on so many cells and so much output is right. One that is wrong is named.
+// Whether the run of the first so many bytes on so many cells and so much output is right.
 fn is_right(text: &[u8], len: usize, cells: usize, output: usize) -> bool {
     let report = expected(len, cells, output);
-    let written = report.written as usize;
+    let (Some(script), Some(written)) = (text.get(..len), text.get(..report.written as usize))
+    else {
+        return false;
+    };
     let lent = Lent {
         cells,
         output,
         allowance: 10000000,
     };
-    if len <= text.len() && written <= text.len() {
-        if lending::is_right(
-            Call::Expand,
-            b"",
-            &text[0..len],
-            lent,
-            report,
-            &text[0..written],
-        ) {
-            return true;
-        }
-    }
-    name(len, cells, output);
-    false
+    let run = Run {
+        script,
+        lent,
+        report,
+        output: written,
+    };
+    run.is_right()
 }
 
-fn name(len: usize, cells: usize, output: usize) {
-    io::write_all(STANDARD_OUTPUT, b"wrong: ");
-    io::print_decimal(STANDARD_OUTPUT, len as u64);
-    io::write_all(STANDARD_OUTPUT, b" ");
-    io::print_decimal(STANDARD_OUTPUT, cells as u64);
-    io::write_all(STANDARD_OUTPUT, b" ");
-    io::print_decimal(STANDARD_OUTPUT, output as u64);
+// Writes the line for a trial that is wrong.
+pub(crate) fn name(sizes: &[usize]) {
+    io::write_all(STANDARD_OUTPUT, b"wrong:");
+    for size in sizes {
+        io::write_all(STANDARD_OUTPUT, b" ");
+        io::print_decimal(STANDARD_OUTPUT, *size as u64);
+    }
     io::write_all(STANDARD_OUTPUT, b"\n");
 }
 

@@ -1,156 +1,85 @@
 // A trial of the call that says where each byte came from: both runs of numbers are lent as parts of larger arrays too.
-use crate::lending::{Call, Lent, MARGIN};
+use crate::lending::{MARGIN, Run};
 use crate::{fields, lending, pattern};
-use expander::Report;
 
 // More than the longest output.
 const MOST_NUMBERS: usize = lending::MOST_OUTPUT + 1;
 
 const NUMBERS_ROOM: usize = MOST_NUMBERS + 2 * MARGIN;
 
-// How many numbers of each run are lent.
+// How many numbers of a run are lent, and those that should stand there, with a blank behind each but the last.
 #[derive(Clone, Copy)]
-pub(crate) struct Numbers {
-    pub(crate) origins: usize,
-    pub(crate) rules: usize,
+pub(crate) struct Noted<'a> {
+    pub(crate) lent: usize,
+    pub(crate) numbers: &'a [u8],
 }
 
-// Whether the call gives this report, this output and, with a blank behind each but the last, these origins and rules, and
-// leaves all lent memory and what lies around it as it should.
-pub(crate) fn is_right(
-    signs: &[u8],
-    text: &[u8],
-    lent: Lent,
-    numbers: Numbers,
-    report: Report,
-    output: &[u8],
-    origins: &[u8],
-    rules: &[u8],
-) -> bool {
-    let mut first = [0u32; NUMBERS_ROOM];
-    let mut second = [0u32; NUMBERS_ROOM];
-    if !is_run(
+// Whether the call makes a run as it should and notes these origins and rules, and leaves what lies around them.
+pub(crate) fn is_right(signs: &[u8], run: Run, origins: Noted, rules: Noted) -> bool {
+    let mut first: [u32; NUMBERS_ROOM] = pattern::cells();
+    let mut second: [u32; NUMBERS_ROOM] = pattern::cells();
+    let written = run.output.len();
+    is_run(
         signs,
-        text,
-        lent,
-        numbers,
-        report,
-        output,
-        &mut first,
-        &mut second,
-    ) {
-        return false;
-    }
-    are_noted(&first, origins, output.len()) && are_noted(&second, rules, output.len())
+        run,
+        lending::part(&mut first, origins.lent),
+        lending::part(&mut second, rules.lent),
+    ) && are_noted(&first, origins.numbers, written)
+        && are_noted(&second, rules.numbers, written)
 }
 
 // The same of a run whose origins are not stored: what lies around them is looked at.
-pub(crate) fn is_as_ordinary(
-    signs: &[u8],
-    text: &[u8],
-    lent: Lent,
-    report: Report,
-    output: &[u8],
-) -> bool {
-    let mut first = [0u32; NUMBERS_ROOM];
-    let mut second = [0u32; NUMBERS_ROOM];
-    let numbers = Numbers {
-        origins: lent.output,
-        rules: lent.output,
-    };
-    if !is_run(
+pub(crate) fn is_as_ordinary(signs: &[u8], run: Run) -> bool {
+    let mut first: [u32; NUMBERS_ROOM] = pattern::cells();
+    let mut second: [u32; NUMBERS_ROOM] = pattern::cells();
+    let lent = run.lent.output;
+    let written = run.output.len();
+    is_run(
         signs,
-        text,
-        lent,
-        numbers,
-        report,
-        output,
-        &mut first,
-        &mut second,
-    ) {
-        return false;
-    }
-    are_untouched_around(&first, output.len()) && are_untouched_around(&second, output.len())
+        run,
+        lending::part(&mut first, lent),
+        lending::part(&mut second, lent),
+    ) && are_untouched_around(&first, written)
+        && are_untouched_around(&second, written)
 }
 
-// Whether report, output and cells are right. The numbers are for who looks at them next.
-fn is_run(
-    signs: &[u8],
-    text: &[u8],
-    lent: Lent,
-    numbers: Numbers,
-    report: Report,
-    output: &[u8],
-    origins: &mut [u32],
-    rules: &mut [u32],
-) -> bool {
-    let mut cells = [0u32; lending::CELLS_ROOM];
-    let mut bytes = [0u8; lending::OUTPUT_ROOM];
-    let got = run(
-        signs, text, lent, numbers, &mut cells, &mut bytes, origins, rules,
-    );
-    lending::is_left(got, &cells, &bytes, lent, report, output)
-}
-
-// Fills the arrays with the pattern and runs the text on parts of them.
-fn run(
-    signs: &[u8],
-    text: &[u8],
-    lent: Lent,
-    numbers: Numbers,
-    cells: &mut [u32],
-    bytes: &mut [u8],
-    origins: &mut [u32],
-    rules: &mut [u32],
-) -> Report {
-    pattern::fill_cells(origins);
-    pattern::fill_cells(rules);
-    if numbers.origins > MOST_NUMBERS {
-        return lending::nothing();
-    }
-    if numbers.rules > MOST_NUMBERS {
-        return lending::nothing();
-    }
-    let origins_end = MARGIN + numbers.origins;
-    let rules_end = MARGIN + numbers.rules;
-    if origins_end > origins.len() || rules_end > rules.len() {
-        return lending::nothing();
-    }
-    let origins = &mut origins[MARGIN..origins_end];
-    let rules = &mut rules[MARGIN..rules_end];
-    lending::run(
-        Call::ExpandOrigins,
-        signs,
-        text,
-        lent,
-        cells,
-        bytes,
+// Whether a run that is lent these numbers is right. What they then are is for who looks at them next.
+fn is_run(signs: &[u8], run: Run, origins: Option<&mut [u32]>, rules: Option<&mut [u32]>) -> bool {
+    let mut room: [u8; lending::SIGNS_ROOM] = pattern::bytes();
+    let (Some(signs), Some(origins), Some(rules)) = (
+        lending::laid(signs, &mut room),
         origins,
         rules,
-    )
+    ) else {
+        return false;
+    };
+    run.is_right_by(|cells, output| {
+        expander::expand_origins(
+            signs,
+            run.script,
+            cells,
+            output,
+            origins,
+            rules,
+            run.lent.allowance,
+        )
+    })
 }
 
 // Whether the numbers written in a field stand from the margin on, as many as bytes were written, and the pattern around them.
-fn are_noted(numbers: &[u32], field: &[u8], written: usize) -> bool {
-    let mut place = MARGIN;
-    let mut at = 0;
-    while at < field.len() {
-        if place >= numbers.len() {
-            return false;
-        }
-        if numbers[place] != fields::value(fields::up_to(&field[at..], b' ')) {
-            return false;
-        }
-        at = fields::behind(field, at, b' ');
-        place += 1;
-    }
-    place - MARGIN == written && are_untouched_around(numbers, written)
+fn are_noted(numbers: &[u32; NUMBERS_ROOM], field: &[u8], written: usize) -> bool {
+    let wanted = field
+        .split_inclusive(|byte| *byte == b' ')
+        .map(|number| fields::value(fields::up_to(number, b' ')));
+    are_untouched_around(numbers, written)
+        && numbers[MARGIN..]
+            .iter()
+            .take(written)
+            .map(|number| Some(*number))
+            .eq(wanted)
 }
 
-fn are_untouched_around(numbers: &[u32], written: usize) -> bool {
-    if written > MOST_NUMBERS {
-        return false;
-    }
-    pattern::has_cells(numbers, 0, MARGIN)
-        && pattern::has_cells(numbers, MARGIN + written, numbers.len())
+fn are_untouched_around(numbers: &[u32; NUMBERS_ROOM], written: usize) -> bool {
+    let before: [u32; NUMBERS_ROOM] = pattern::cells();
+    written <= MOST_NUMBERS && lending::is_around(numbers, &before, written)
 }

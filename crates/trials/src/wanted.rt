@@ -1,8 +1,8 @@
 // Asks for scripts for plain keys of five sizes in output of seven sizes, and writes a line for each call that is wrong.
 ghost use Rattle.std.specs.Prelude.{◌+◌, ◌≤◌, length};
 
-use crate::recording::Call;
-use crate::{STANDARD_OUTPUT, recording};
+use crate::recording::Recording;
+use crate::sizes;
 use keys::ScriptReport;
 use language::Sizes;
 
@@ -13,29 +13,18 @@ const ROOM: usize = ScriptReport::WANTED_LIMIT + 3;
 
 // How many of the calls are wrong.
 pub(crate) fn try_all(text: &[u8]) -> usize {
-    let mut wrong = 0;
-    for call in 0..CALLS {
-        let len = wanted(call / 7);
-        let output = lent(call % 7, len);
-        if !is_right(text, len, output) {
-            name(len, output);
-            wrong += 1;
-        }
-    }
-    wrong
+    (0..CALLS).filter(|call| is_wrong(text, *call)).count()
 }
 
-// None, one, one less than the limit, the limit and one more.
-fn wanted(number: usize) -> usize
-    ensures { result ≤ 65535 }
-{
-    match number {
-        0 => 0,
-        1 => 1,
-        2 => ScriptReport::WANTED_LIMIT - 1,
-        3 => ScriptReport::WANTED_LIMIT,
-        _ => ScriptReport::WANTED_LIMIT + 1,
+// Whether the call with this number is wrong. One that is wrong is named.
+fn is_wrong(text: &[u8], call: usize) -> bool {
+    let len = sizes::about(call / 7, ScriptReport::WANTED_LIMIT);
+    let output = lent(call % 7, len);
+    if is_right(text, len, output) {
+        return false;
     }
+    sizes::name(&[len, output]);
+    true
 }
 
 // None, as long as the keys, one byte short of the script, its length, and about the limit.
@@ -57,17 +46,20 @@ fn lent(number: usize, wanted: usize) -> usize
 fn is_right(text: &[u8], len: usize, output: usize) -> bool
     requires { len ≤ 65535 }
 {
-    if len > text.len() {
+    let Some(wanted) = text.get(..len) else {
         return false;
-    }
-    let wanted = &text[0..len];
+    };
     let outcome = expected(len, output);
-    if outcome != 0 {
-        return is_answered(wanted, output, outcome, b"");
-    }
-    let mut script = [b'x'; ROOM];
-    quote(&mut script, len);
-    is_answered(wanted, output, 0, &script[0..len + 2])
+    let mut room = [b'x'; ROOM];
+    quote(&mut room, len);
+    let script: &[u8] = if outcome == 0 { &room[..len + 2] } else { b"" };
+    let recording = Recording {
+        wanted,
+        lent: Some(output),
+        outcome: Some(outcome),
+        script,
+    };
+    recording.is_right()
 }
 
 // The quotes of a script for so many bytes.
@@ -78,11 +70,6 @@ fn quote(script: &mut [u8], len: usize)
     script[len + 1] = b'>';
 }
 
-fn is_answered(wanted: &[u8], output: usize, outcome: u32, script: &[u8]) -> bool {
-    let kinds = language::standard_kinds();
-    recording::is_right(Call::GpmScript, &kinds, wanted, output, outcome, script)
-}
-
 // Plain bytes have a script.
 fn expected(len: usize, output: usize) -> u32
     requires { len ≤ 65535 }
@@ -91,12 +78,4 @@ fn expected(len: usize, output: usize) -> u32
         return 2;
     }
     if output < len + 2 { 5 } else { 0 }
-}
-
-fn name(len: usize, output: usize) {
-    io::write_all(STANDARD_OUTPUT, b"wrong: ");
-    io::print_decimal(STANDARD_OUTPUT, len as u64);
-    io::write_all(STANDARD_OUTPUT, b" ");
-    io::print_decimal(STANDARD_OUTPUT, output as u64);
-    io::write_all(STANDARD_OUTPUT, b"\n");
 }
