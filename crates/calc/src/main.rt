@@ -2,7 +2,7 @@
 // result. A line that names no operation, or lacks a part, is answered by a question mark.
 #![tactic(auto)]
 
-use decimal::operations::{Answer, Operation};
+use decimal::operations::{Operation, Refusal};
 use decimal::shortest::Decimal;
 
 fn main() {
@@ -24,7 +24,7 @@ fn answer_lines(text: &[u8]) {
 }
 
 // The answer to a line. The second operand is all behind the second comma.
-fn answer(line: &[u8]) -> Option<Answer> {
+fn answer(line: &[u8]) -> Option<Result<Decimal, Refusal>> {
     let mut parts = line.splitn(3, |byte| *byte == b',');
     let operation = operation(parts.next()?)?;
     Some(decimal::calculate(operation, parts.next()?, parts.next()?))
@@ -42,11 +42,16 @@ fn operation(name: &[u8]) -> Option<Operation> {
     }
 }
 
-fn write_answer(answer: Answer) {
-    io::print_decimal(1, answer.outcome as u64);
-    io::write_all(1, b" ");
-    let Decimal { bytes, len } = answer.decimal;
-    if let Some(digits) = bytes.get(..len) {
-        io::write_all(1, digits);
+// The outcome, a blank and, where there is one, the result.
+fn write_answer(answer: Result<Decimal, Refusal>) {
+    match answer {
+        Ok(decimal) => {
+            io::write_all(1, b"0 ");
+            io::write_all(1, decimal.as_bytes());
+        }
+        Err(refusal) => {
+            io::print_decimal(1, u64::from(u32::from(refusal)));
+            io::write_all(1, b" ");
+        }
     }
 }

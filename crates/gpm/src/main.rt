@@ -18,7 +18,8 @@ ghost use Rattle.expander.specs.Reports.{refused_with};
 ghost use Rattle.gpm.specs.Line.{item, report_line};
 
 use expander::Report;
-use language::{Sizes, outcomes};
+use language::Sizes;
+use language::outcomes::Outcome;
 use std::io::{ErrorKind, Read};
 
 // One byte more than a text may have, so that a longer one is seen and refused.
@@ -102,7 +103,7 @@ fn nothing_lent() -> Report
     ensures { result ≡ refused_with Outcomes.too_large }
 {
     Report {
-        outcome: outcomes::TOO_LARGE as u64,
+        outcome: u64::from(u32::from(Outcome::TooLarge)),
         read: 0,
         written: 0,
         scans: 0,
@@ -117,7 +118,7 @@ fn run(text: &[u8]) {
     let mut output = [0u8; Sizes::OUTPUT_LIMIT];
     let report = expander::expand(text, &mut cells, &mut output, SCANS);
     write_report(report);
-    if report.outcome <= outcomes::FINISHED_AT_QUOTE as u64 {
+    if report.outcome <= u64::from(u32::from(Outcome::FinishedAtQuote)) {
         write_output(&output, report.written as usize);
     }
 }

@@ -3,7 +3,7 @@
 use crate::lending::{Lent, OUTPUT_ROOM, Run};
 use crate::{fields, lending, pattern};
 use expander::Report;
-use keys::ScriptReport;
+use language::outcomes::Outcome;
 
 // Keys for which a script is asked, how much output is lent, and the outcome and the script, empty where it is refused, that
 // should come of it. No outcome should come of output that cannot be lent.
@@ -15,18 +15,24 @@ pub(crate) struct Recording<'a> {
     pub(crate) script: &'a [u8],
 }
 
-// What a call answers.
+// What a call answers, in numbers.
 #[derive(Clone, Copy)]
 struct Answer {
     outcome: u32,
     length: usize,
 }
 
-impl From<ScriptReport> for Answer {
-    fn from(report: ScriptReport) -> Answer {
-        Answer {
-            outcome: report.outcome,
-            length: report.length as usize,
+impl From<Result<u32, Outcome>> for Answer {
+    fn from(answer: Result<u32, Outcome>) -> Answer {
+        match answer {
+            Ok(length) => Answer {
+                outcome: 0,
+                length: length as usize,
+            },
+            Err(outcome) => Answer {
+                outcome: u32::from(outcome),
+                length: 0,
+            },
         }
     }
 }

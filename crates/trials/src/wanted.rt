@@ -3,13 +3,13 @@ ghost use Rattle.std.specs.Prelude.{◌+◌, ◌≤◌, length};
 
 use crate::recording::Recording;
 use crate::sizes;
-use keys::ScriptReport;
+use keys::WANTED_LIMIT;
 use language::Sizes;
 
 pub(crate) const CALLS: usize = 35;
 
 // As long as the longest script and one byte more.
-const ROOM: usize = ScriptReport::WANTED_LIMIT + 3;
+const ROOM: usize = WANTED_LIMIT + 3;
 
 // How many of the calls are wrong.
 pub(crate) fn try_all(text: &[u8]) -> usize {
@@ -18,7 +18,7 @@ pub(crate) fn try_all(text: &[u8]) -> usize {
 
 // Whether the call with this number is wrong. One that is wrong is named.
 fn is_wrong(text: &[u8], call: usize) -> bool {
-    let len = sizes::about(call / 7, ScriptReport::WANTED_LIMIT);
+    let len = sizes::about(call / 7, WANTED_LIMIT);
     let output = lent(call % 7, len);
     if is_right(text, len, output) {
         return false;
@@ -74,7 +74,7 @@ fn quote(script: &mut [u8], len: usize)
 fn expected(len: usize, output: usize) -> u32
     requires { len ≤ 65535 }
 {
-    if len > ScriptReport::WANTED_LIMIT || output > Sizes::OUTPUT_LIMIT {
+    if len > WANTED_LIMIT || output > Sizes::OUTPUT_LIMIT {
         return 2;
     }
     if output < len + 2 { 5 } else { 0 }
