@@ -92,10 +92,7 @@ fn read_some<R: Read>(from: &mut R, text: &mut [u8]) -> std::io::Result<usize>
 fn is_interrupted(got: &std::io::Result<usize>) -> bool
     ensures { IsTrue result ↔ IsErrAnd got.now (λ e. error_kind e ≡ ErrorKind.Interrupted) }
 {
-    match got {
-        Ok(_) => false,
-        Err(error) => error.kind() == ErrorKind::Interrupted,
-    }
+    matches!(got, Err(error) if error.kind() == ErrorKind::Interrupted)
 }
 
 // The report where no whole text could be read: a text that cannot be lent is refused, "all counts 0".

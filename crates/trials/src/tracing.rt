@@ -16,54 +16,51 @@ pub(crate) struct Noted<'a> {
 
 // Whether the call makes a run as it should and notes these origins and rules, and leaves what lies around them.
 pub(crate) fn is_right(signs: &[u8], run: Run, origins: Noted, rules: Noted) -> bool {
-    let mut first: [u32; NUMBERS_ROOM] = pattern::cells();
-    let mut second: [u32; NUMBERS_ROOM] = pattern::cells();
     let written = run.output.len();
-    is_run(
-        signs,
-        run,
-        lending::part(&mut first, origins.lent),
-        lending::part(&mut second, rules.lent),
-    ) && are_noted(&first, origins.numbers, written)
-        && are_noted(&second, rules.numbers, written)
+    is_right_by(signs, run, origins.lent, rules.lent, |first, second| {
+        are_noted(first, origins.numbers, written) && are_noted(second, rules.numbers, written)
+    })
 }
 
 // The same of a run whose origins are not stored: what lies around them is looked at.
 pub(crate) fn is_as_ordinary(signs: &[u8], run: Run) -> bool {
-    let mut first: [u32; NUMBERS_ROOM] = pattern::cells();
-    let mut second: [u32; NUMBERS_ROOM] = pattern::cells();
-    let lent = run.lent.output;
     let written = run.output.len();
-    is_run(
+    is_right_by(
         signs,
         run,
-        lending::part(&mut first, lent),
-        lending::part(&mut second, lent),
-    ) && are_untouched_around(&first, written)
-        && are_untouched_around(&second, written)
+        run.lent.output,
+        run.lent.output,
+        |first, second| {
+            are_untouched_around(first, written) && are_untouched_around(second, written)
+        },
+    )
 }
 
-// Whether a run that is lent these numbers is right. What they then are is for who looks at them next.
-fn is_run(signs: &[u8], run: Run, origins: Option<&mut [u32]>, rules: Option<&mut [u32]>) -> bool {
+// Whether the call makes a run as it should, with so many origins and rules lent, and a test holds of the arrays around these.
+fn is_right_by<F: FnOnce(&[u32; NUMBERS_ROOM], &[u32; NUMBERS_ROOM]) -> bool>(
+    signs: &[u8],
+    run: Run,
+    origins: usize,
+    rules: usize,
+    are_right: F,
+) -> bool
+    requires { F.IsAlwaysCallable are_right }
+{
     let mut room: [u8; lending::SIGNS_ROOM] = pattern::bytes();
+    let mut first: [u32; NUMBERS_ROOM] = pattern::cells();
+    let mut second: [u32; NUMBERS_ROOM] = pattern::cells();
     let (Some(signs), Some(origins), Some(rules)) = (
         lending::laid(signs, &mut room),
-        origins,
-        rules,
+        lending::part(&mut first, origins),
+        lending::part(&mut second, rules),
     ) else {
         return false;
     };
-    run.is_right_by(|cells, output| {
-        expander::expand_origins(
-            signs,
-            run.script,
-            cells,
-            output,
-            origins,
-            rules,
-            run.lent.allowance,
-        )
-    })
+    let is_run_right = run.is_right_by(|cells, output| {
+        let allowance = run.lent.allowance;
+        expander::expand_origins(signs, run.script, cells, output, origins, rules, allowance)
+    });
+    is_run_right && are_right(&first, &second)
 }
 
 // Whether the numbers written in a field stand from the margin on, as many as bytes were written, and the pattern around them.
