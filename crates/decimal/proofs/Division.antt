@@ -113,6 +113,15 @@ remainder_only {a} {b} {q} {r} d = ap (λ z. a -ℤ b *ℤ z) (quotient_only d) 
 pub division_unique : {a b q r q' r' : ℤ} → Division a b q r → Division a b q' r' → (q ≡ q') × (r ≡ r')
 division_unique d e = (sym (quotient_only d) ∙ quotient_only e, sym (remainder_only d) ∙ remainder_only e)
 
+-- by -1 the quotient is the negation
+pub quotient_minus_one : (a : ℤ) → quotient_of a (negsuc 0) ≡ neg_ℤ a
+quotient_minus_one (pos a) = rw (div-one a)
+quotient_minus_one (negsuc a) = rw (div-one a)
+
+-- and nothing remains
+pub remainder_minus_one : (a : ℤ) → remainder_of a (negsuc 0) ≡ pos 0
+remainder_minus_one a = remainder_left a (negsuc 0) (λ e. pos-ne-negsuc 0 0 (sym e)) ∙ ap pos (omega (arith, left_below a 1 (omega arith)))
+
 -- a divisor of a division is not zero
 pub divisor_some : {a b q r : ℤ} → Division a b q r → is_zero b ≡ false
 divisor_some {a} {b} {q} {r} d = go b r d
