@@ -7,7 +7,7 @@ use native.Mathlib.Omega.{arith}
 use native.Mathlib.Nat.{mul-zero, mod-lt, div-one, div-le_self, div-lt_iff_lt-mul, div-add-mod, div-eq_of_lt, mul-add-div}
 use borrow.Author.Tests.{lt-ltb}
 use lib.Dec.{eqb-suc-zero, le→leb, lt→ltb, ltb→lt}
-use lib.IntN.{ℤ, pos, negsuc, neg_ℤ, nat_abs, ◌+ℤ◌, ◌-ℤ◌, ◌*ℤ◌, neg_ℤ-neg_ℤ, +ℤ_comm, +ℤ-neg_ℤ_cancel, -ℤ-+ℤ_cancel}
+use lib.IntN.{ℤ, pos, negsuc, neg_ℤ, nat_abs, ◌+ℤ◌, ◌-ℤ◌, ◌*ℤ◌, neg_ℤ-neg_ℤ, pos-ne-negsuc, +ℤ_comm, +ℤ-neg_ℤ_cancel, -ℤ-+ℤ_cancel}
 use lib.Signed.{shr_z, nat_abs-le, le_z_yes, lt_z_yes}
 use mir.Syntax.{w32}
 use mir.Val.{SFits}
