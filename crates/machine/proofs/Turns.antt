@@ -1,4 +1,4 @@
--- One turn of each walk: what it answers with no turn left, and what it answers with one at least. And a test that a call answered.
+-- One turn of each walk of n turns, of which i are made: what it answers with one left at least, and with none. And a test that a call answered.
 use Prim.Native.Nat.{ℕ, zero, suc, ◌+◌, ◌-◌, ◌%◌, ◌≤◌, ◌<◌}
 use mathlib.Core.Bool.{Bool, true, false, cond}
 use mathlib.Core.List.{List, [], ◌∷◌, ◌++◌}
@@ -17,99 +17,101 @@ use Rattle.machine.proofs.Lists.{block-cons}
 pub told : {r b v : Bool} → r ≡ b → r ≡ v → b ≡ v
 told e h = sym e ∙ h
 
-less : (t : ℕ) → suc t - 1 ≡ t
-less t = omega arith
+left : (n i : ℕ) → i < n → n - i ≡ suc (n - (i + 1))
+left n i h = omega arith
+
+none_left : (n i : ℕ) → n ≤ i → n - i ≡ 0
+none_left n i h = omega arith
 
 module _ (l : List ℕ) where
-  pub argument_done : (p : ℕ) → argument l p 0 ≡ cond (leb mark (get_or l p 0)) nowhere p
+  pub argument_turn :
+      (p k i : ℕ) → i < k
+      → argument l p (k - i) ≡ cond (leb mark (get_or l p 0)) nowhere (argument l (p + (get_or l p 0 + 1)) (k - (i + 1)))
   unfolding argument
-  argument_done p = refl
+  argument_turn p k i h = rw (left k i h)
 
-  pub argument_turn : (p k : ℕ) → 0 < k → argument l p k ≡ cond (leb mark (get_or l p 0)) nowhere (argument l (p + (get_or l p 0 + 1)) (k - 1))
+  pub argument_done : (p k i : ℕ) → k ≤ i → argument l p (k - i) ≡ cond (leb mark (get_or l p 0)) nowhere p
   unfolding argument
-  argument_turn p zero h = omega arith
-  argument_turn p (suc k) h = rw (less k)
-
-  pub chosen_done : (p : ℕ) → chosen_from 0 l p ≡ nowhere
-  unfolding chosen_from
-  chosen_done p = refl
+  argument_done p k i h = rw (none_left k i h)
 
   pub chosen_turn :
-      (t p : ℕ) → 0 < t
-      → chosen_from t l p
+      (p n i : ℕ) → i < n
+      → chosen_from (n - i) l p
       ≡ cond (leb (length l) p) nowhere
-      (cond (eqb (argument l p 2) nowhere) nowhere (cond (is_one l (argument l p 1)) (argument l p 2) (chosen_from (t - 1) l (argument l p 2))))
+      (cond (eqb (argument l p 2) nowhere) nowhere (cond (is_one l (argument l p 1)) (argument l p 2) (chosen_from (n - (i + 1)) l (argument l p 2))))
   unfolding chosen_from
-  chosen_turn zero p h = absurd (omega arith)
-  chosen_turn (suc t) p h = rw (less t)
+  chosen_turn p n i h = rw (left n i h)
 
-  pub newest_done : (p name count : ℕ) → newest_from 0 l p name count ≡ nowhere
-  unfolding newest_from
-  newest_done p name count = refl
+  pub chosen_done : (p n i : ℕ) → n ≤ i → chosen_from (n - i) l p ≡ nowhere
+  unfolding chosen_from
+  chosen_done p n i h = rw (none_left n i h)
 
   pub newest_turn :
-      (t p name count : ℕ) → 0 < t
-      → newest_from t l p name count
-      ≡ cond (leb (length l) p) nowhere (cond (is_named l p name count) p (newest_from (t - 1) l (group_link l p) name count))
+      (p name count n i : ℕ) → i < n
+      → newest_from (n - i) l p name count
+      ≡ cond (leb (length l) p) nowhere (cond (is_named l p name count) p (newest_from (n - (i + 1)) l (group_link l p) name count))
   unfolding newest_from
-  newest_turn zero p name count h = omega arith
-  newest_turn (suc t) p name count h = rw (less t)
+  newest_turn p name count n i h = rw (left n i h)
 
-  pub definitions_done : (p to : ℕ) → definitions_from 0 l p to ≡ 0
+  pub newest_done : (p name count n i : ℕ) → n ≤ i → newest_from (n - i) l p name count ≡ nowhere
+  unfolding newest_from
+  newest_done p name count n i h = rw (none_left n i h)
+
+  pub definitions_turn :
+      (p to n i : ℕ) → i < n
+      → definitions_from (n - i) l p to
+      ≡ cond (leb to p) 0 (suc (definitions_from (n - (i + 1)) l (p + size l p) to))
   unfolding definitions_from
-  definitions_done p to = refl
+  definitions_turn p to n i h = rw (left n i h)
 
-  pub definitions_turn : (t p to : ℕ) → 0 < t → definitions_from t l p to ≡ cond (leb to p) 0 (suc (definitions_from (t - 1) l (p + size l p) to))
+  pub definitions_done : (p to n i : ℕ) → n ≤ i → definitions_from (n - i) l p to ≡ 0
   unfolding definitions_from
-  definitions_turn zero p to h = omega arith
-  definitions_turn (suc t) p to h = rw (less t)
-
-  pub is_read_done : (list body definition : ℕ) → is_read_from 0 l list body definition ≡ false
-  unfolding is_read_from
-  is_read_done list body definition = refl
+  definitions_done p to n i h = rw (none_left n i h)
 
   pub is_read_turn :
-      (t list body definition : ℕ) → 0 < t
-      → is_read_from t l list body definition
+      (list body definition n i : ℕ) → i < n
+      → is_read_from (n - i) l list body definition
       ≡ cond (eqb list nowhere) false
-      (cond (eqb body definition) true (is_read_from (t - 1) l (low (list_link l list)) (high (return_link l list)) definition))
+      (cond (eqb body definition) true (is_read_from (n - (i + 1)) l (low (list_link l list)) (high (return_link l list)) definition))
   unfolding is_read_from
-  is_read_turn zero list body definition h = absurd (omega arith)
-  is_read_turn (suc t) list body definition h = rw (less t)
+  is_read_turn list body definition n i h = rw (left n i h)
 
-  pub removed_done : (heads : List ℕ) (p to : ℕ) → removed_from 0 l heads p to ≡ heads
-  unfolding removed_from
-  removed_done heads p to = refl
+  pub is_read_done : (list body definition n i : ℕ) → n ≤ i → is_read_from (n - i) l list body definition ≡ false
+  unfolding is_read_from
+  is_read_done list body definition n i h = rw (none_left n i h)
 
   pub removed_turn :
-      (t : ℕ) (heads : List ℕ) (p to : ℕ) → 0 < t
-      → removed_from t l heads p to ≡ cond (leb to p) heads (removed_from (t - 1) l (removed_at l heads p) (p + size l p) to)
+      (heads : List ℕ) (p to n i : ℕ) → i < n
+      → removed_from (n - i) l heads p to
+      ≡ cond (leb to p) heads (removed_from (n - (i + 1)) l (removed_at l heads p) (p + size l p) to)
   unfolding removed_from
-  removed_turn zero heads p to h = absurd (omega arith)
-  removed_turn (suc t) heads p to h = rw (less t)
+  removed_turn heads p to n i h = rw (left n i h)
 
-  pub relinked_done : (heads : List ℕ) (p to end by : ℕ) → relinked_from 0 l heads p to end by ≡ l
-  unfolding relinked_from
-  relinked_done heads p to end by = refl
+  pub removed_done : (heads : List ℕ) (p to n i : ℕ) → n ≤ i → removed_from (n - i) l heads p to ≡ heads
+  unfolding removed_from
+  removed_done heads p to n i h = rw (none_left n i h)
 
   pub relinked_turn :
-      (t : ℕ) (heads : List ℕ) (p to end by : ℕ) → 0 < t
-      → relinked_from t l heads p to end by
-      ≡ cond (leb to p) l (relinked_from (t - 1) (with_group_link l p (link_moved l heads p end by)) heads (p + size l p) to end by)
+      (heads : List ℕ) (p to end by n i : ℕ) → i < n
+      → relinked_from (n - i) l heads p to end by
+      ≡ cond (leb to p) l (relinked_from (n - (i + 1)) (with_group_link l p (link_moved l heads p end by)) heads (p + size l p) to end by)
   unfolding relinked_from
-  relinked_turn zero heads p to end by h = absurd (omega arith)
-  relinked_turn (suc t) heads p to end by h = rw (less t)
+  relinked_turn heads p to end by n i h = rw (left n i h)
 
-  pub restored_done : (heads : List ℕ) (p to : ℕ) → restored_from 0 l heads p to ≡ heads
-  unfolding restored_from
-  restored_done heads p to = refl
+  pub relinked_done : (heads : List ℕ) (p to end by n i : ℕ) → n ≤ i → relinked_from (n - i) l heads p to end by ≡ l
+  unfolding relinked_from
+  relinked_done heads p to end by n i h = rw (none_left n i h)
 
   pub restored_turn :
-      (t : ℕ) (heads : List ℕ) (p to : ℕ) → 0 < t
-      → restored_from t l heads p to ≡ cond (leb to p) heads (restored_from (t - 1) l (restored_at l heads p to) (p + size l p) to)
+      (heads : List ℕ) (p to n i : ℕ) → i < n
+      → restored_from (n - i) l heads p to
+      ≡ cond (leb to p) heads (restored_from (n - (i + 1)) l (restored_at l heads p to) (p + size l p) to)
   unfolding restored_from
-  restored_turn zero heads p to h = absurd (omega arith)
-  restored_turn (suc t) heads p to h = rw (less t)
+  restored_turn heads p to n i h = rw (left n i h)
+
+  pub restored_done : (heads : List ℕ) (p to n i : ℕ) → n ≤ i → restored_from (n - i) l heads p to ≡ heads
+  unfolding restored_from
+  restored_done heads p to n i h = rw (none_left n i h)
 
   -- the low bytes of one cell more
   pub low_turn : (from taken : ℕ) → from + taken < length l → block from (taken + 1) (low_bytes l) ≡ block from taken (low_bytes l) ++ ((get_or l (from + taken) 0 % 256) ∷ [])

@@ -3,7 +3,7 @@
 ghost use Rattle.std.specs.Prelude.{◌≡◌, ◌+◌, ◌≤◌, ◌<◌, length};
 ghost use Rattle.memory.specs.Block.{block};
 ghost use Rattle.language.specs.Signs.{cells_limit};
-ghost use Rattle.language.specs.Groups.{group};
+ghost use Rattle.language.specs.Groups.{group, sum};
 ghost use Rattle.machine.specs.Walks.{definition_group, removed_at, removed, linked_at, headed_at, link_moved, relinked, restored_at, restored};
 
 use crate::{layout, lookup};
@@ -16,17 +16,24 @@ pub(crate) fn group(cells: &[u32], from: usize, count: usize) -> usize
     requires { (length cells.now ≤ cells_limit) × (from ≤ 8589934600) × (count ≤ 4294967296) }
     ensures { (result ≡ group (block from count cells.now)) × (result < 64) }
 {
-    let mut sum = 0;
-    let mut taken = 0;
-    while taken < count {
-        let at = from + taken;
-        if at >= cells.len() {
-            return sum % 64;
-        }
-        sum += cells[at] as usize;
-        taken += 1;
-    }
-    sum % 64
+    sum(block(cells, from, count)) % 64
+}
+
+fn sum(cells: &[u32]) -> usize
+    requires { length cells.now ≤ cells_limit }
+    ensures { result ≡ sum cells.now }
+{
+    cells.iter().map(|cell| *cell as usize).sum()
+}
+
+// So many cells from a position on, as far as there are cells.
+fn block(cells: &[u32], from: usize, count: usize) -> &[u32]
+    ensures { result.now ≡ block from count cells.now }
+{
+    let Some(cells) = cells.get(from..) else {
+        return &[];
+    };
+    cells.get(..count).unwrap_or(cells)
 }
 
 // The group of a definition.
@@ -48,19 +55,18 @@ fn remove_one(heads: &mut [u32; 64], cells: &[u32], definition: usize)
 }
 
 // The definitions from one position to another go, the newest first.
+#[tactic(auto, using(crate::proofs::Turns::removed_turn, crate::proofs::Turns::removed_done))]
 pub(crate) fn remove(heads: &mut [u32; 64], cells: &[u32], from: usize, to: usize)
     requires { (length cells.now ≤ cells_limit) × (from ≤ 4294967296) × (to ≤ 4294967296) }
     ensures { heads.new ≡ removed cells.now heads.old from to }
 {
-    let mut turns = cells.len();
     let mut position = from;
-    while turns > 0 {
+    for _ in 0..cells.len() {
         if position >= to {
             return;
         }
         remove_one(heads, cells, position);
         position += lookup::size(cells, position);
-        turns -= 1;
     }
 }
 
@@ -88,6 +94,7 @@ fn link_moved(heads: &[u32; 64], cells: &[u32], definition: usize, end: usize, b
 }
 
 // The definitions from one position to another have moved: each is linked anew. The heads are of those that did not move.
+#[tactic(auto, using(crate::proofs::Turns::relinked_turn, crate::proofs::Turns::relinked_done))]
 pub(crate) fn relink(
     heads: &[u32; 64],
     cells: &mut [u32],
@@ -99,9 +106,8 @@ pub(crate) fn relink(
     requires { (length cells.old ≤ cells_limit) × (from ≤ 4294967296) × (to ≤ 4294967296) × (by ≤ cells_limit) }
     ensures { cells.new ≡ relinked cells.old heads.now from to end by }
 {
-    let mut turns = cells.len();
     let mut position = from;
-    while turns > 0 {
+    for _ in 0..cells.len() {
         if position >= to {
             return;
         }
@@ -109,7 +115,6 @@ pub(crate) fn relink(
         let link = link_moved(heads, cells, position, end, by);
         layout::write_group_link(cells, position, link);
         position = next;
-        turns -= 1;
     }
 }
 
@@ -127,18 +132,17 @@ fn restore_one(heads: &mut [u32; 64], cells: &[u32], definition: usize, to: usiz
 }
 
 // The definitions from one position to another, linked already, come back, the newest first.
+#[tactic(auto, using(crate::proofs::Turns::restored_turn, crate::proofs::Turns::restored_done))]
 pub(crate) fn restore(heads: &mut [u32; 64], cells: &[u32], from: usize, to: usize)
     requires { (length cells.now ≤ cells_limit) × (from ≤ 4294967296) × (to ≤ 4294967296) }
     ensures { heads.new ≡ restored cells.now heads.old from to }
 {
-    let mut turns = cells.len();
     let mut position = from;
-    while turns > 0 {
+    for _ in 0..cells.len() {
         if position >= to {
             return;
         }
         restore_one(heads, cells, position, to);
         position += lookup::size(cells, position);
-        turns -= 1;
     }
 }

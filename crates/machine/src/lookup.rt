@@ -7,19 +7,18 @@ use crate::run::Run;
 use crate::{index, layout};
 
 // The length cell of an argument of a list, counted from the one at `from`.
+#[tactic(auto, using(crate::proofs::Turns::argument_turn, crate::proofs::Turns::argument_done))]
 pub(crate) fn argument(cells: &[u32], from: usize, index: usize) -> usize
     requires { (from ≤ cells_limit + 4) × (index ≤ nowhere) }
     ensures { (result ≡ argument cells.now from index) × (result ≤ 8589934592) }
 {
-    let mut due = index;
     let mut position = from;
-    while due > 0 {
+    for _ in 0..index {
         let length = memory::read(cells, position);
         if length >= layout::MARK {
             return Run::NOWHERE;
         }
         position += length as usize + 1;
-        due -= 1;
     }
     if memory::read(cells, position) >= layout::MARK {
         return Run::NOWHERE;
@@ -28,13 +27,13 @@ pub(crate) fn argument(cells: &[u32], from: usize, index: usize) -> usize
 }
 
 // The length cell of what IF gives, the list of its call being at `name`: the second of the first pair whose first is `1`.
+#[tactic(auto, using(crate::proofs::Turns::chosen_turn, crate::proofs::Turns::chosen_done))]
 pub(crate) fn chosen(cells: &[u32], name: usize) -> usize
     requires { (length cells.now ≤ cells_limit) × (name ≤ cells_limit + 4) }
     ensures { (result ≡ chosen cells.now name) × (result ≤ 8589934592) }
 {
-    let mut turns = cells.len();
     let mut position = name;
-    while turns > 0 {
+    for _ in 0..cells.len() {
         if position >= cells.len() {
             return Run::NOWHERE;
         }
@@ -46,7 +45,6 @@ pub(crate) fn chosen(cells: &[u32], name: usize) -> usize
             return second;
         }
         position = second;
-        turns -= 1;
     }
     Run::NOWHERE
 }
@@ -61,15 +59,15 @@ fn is_one(cells: &[u32], argument: usize) -> bool
 }
 
 // The newest definition with the name at a length cell: the first that has it in its group.
+#[tactic(auto, using(crate::proofs::Turns::newest_turn, crate::proofs::Turns::newest_done))]
 pub(crate) fn newest(cells: &[u32], heads: &[u32; 64], name: usize) -> usize
     requires { (length cells.now ≤ cells_limit) × (name ≤ 8589934592) }
     ensures { result ≡ newest cells.now heads.now name }
 {
     let count = memory::read(cells, name) as usize;
     let group = index::group(cells, name + 1, count);
-    let mut turns = cells.len();
     let mut position = layout::position(heads[group]);
-    while turns > 0 {
+    for _ in 0..cells.len() {
         if position >= cells.len() {
             return Run::NOWHERE;
         }
@@ -77,7 +75,6 @@ pub(crate) fn newest(cells: &[u32], heads: &[u32; 64], name: usize) -> usize
             return position;
         }
         position = layout::group_link(cells, position) as usize;
-        turns -= 1;
     }
     Run::NOWHERE
 }
@@ -104,33 +101,32 @@ pub(crate) fn size(cells: &[u32], definition: usize) -> usize
 }
 
 // How many definitions stand from one position to another.
+#[tactic(auto, using(crate::proofs::Turns::definitions_turn, crate::proofs::Turns::definitions_done))]
 pub(crate) fn definitions(cells: &[u32], from: usize, to: usize) -> usize
     requires { (length cells.now ≤ cells_limit) × (from ≤ 4294967296) × (to ≤ 4294967296) }
     ensures { result ≡ definitions cells.now from to }
 {
-    let mut turns = cells.len();
     let mut position = from;
     let mut count = 0;
-    while turns > 0 {
+    for _ in 0..cells.len() {
         if position >= to {
             return count;
         }
         position += size(cells, position);
         count += 1;
-        turns -= 1;
     }
     count
 }
 
 // Whether the body of a definition is being read.
+#[tactic(auto, using(crate::proofs::Turns::is_read_turn, crate::proofs::Turns::is_read_done))]
 pub(crate) fn is_read(cells: &[u32], innermost: usize, reading: usize, definition: usize) -> bool
     requires { innermost ≤ nowhere }
     ensures { result ≡ is_read cells.now innermost reading definition }
 {
-    let mut turns = cells.len();
     let mut list = innermost;
     let mut body = reading;
-    while turns > 0 {
+    for _ in 0..cells.len() {
         if list == Run::NOWHERE {
             return false;
         }
@@ -139,7 +135,6 @@ pub(crate) fn is_read(cells: &[u32], innermost: usize, reading: usize, definitio
         }
         body = layout::high(layout::return_link(cells, list));
         list = layout::low(layout::list_link(cells, list));
-        turns -= 1;
     }
     false
 }
