@@ -6,6 +6,7 @@ ghost use Rattle.language.specs.Signs.{cells_limit};
 ghost use Rattle.language.specs.Groups.{group, sum};
 ghost use Rattle.machine.specs.Walks.{definition_group, removed_at, removed, linked_at, headed_at, link_moved, relinked, restored_at, restored};
 
+use crate::lookup::Standing;
 use crate::{layout, lookup};
 
 // The head of a group in which nothing is defined: the mark.
@@ -55,18 +56,13 @@ fn remove_one(heads: &mut [u32; 64], cells: &[u32], definition: usize)
 }
 
 // The definitions from one position to another go, the newest first.
-#[tactic(auto, using(crate::proofs::Turns::removed_turn, crate::proofs::Turns::removed_done))]
+#[tactic(auto, using(crate::proofs::Turns::removed_goes_on, crate::proofs::Turns::removed_over))]
 pub(crate) fn remove(heads: &mut [u32; 64], cells: &[u32], from: usize, to: usize)
     requires { (length cells.now ≤ cells_limit) × (from ≤ 4294967296) × (to ≤ 4294967296) }
     ensures { heads.new ≡ removed cells.now heads.old from to }
 {
-    let mut position = from;
-    for _ in 0..cells.len() {
-        if position >= to {
-            return;
-        }
-        remove_one(heads, cells, position);
-        position += lookup::size(cells, position);
+    for definition in Standing::between(cells, from, to) {
+        remove_one(heads, cells, definition);
     }
 }
 
@@ -132,17 +128,12 @@ fn restore_one(heads: &mut [u32; 64], cells: &[u32], definition: usize, to: usiz
 }
 
 // The definitions from one position to another, linked already, come back, the newest first.
-#[tactic(auto, using(crate::proofs::Turns::restored_turn, crate::proofs::Turns::restored_done))]
+#[tactic(auto, using(crate::proofs::Turns::restored_goes_on, crate::proofs::Turns::restored_over))]
 pub(crate) fn restore(heads: &mut [u32; 64], cells: &[u32], from: usize, to: usize)
     requires { (length cells.now ≤ cells_limit) × (from ≤ 4294967296) × (to ≤ 4294967296) }
     ensures { heads.new ≡ restored cells.now heads.old from to }
 {
-    let mut position = from;
-    for _ in 0..cells.len() {
-        if position >= to {
-            return;
-        }
-        restore_one(heads, cells, position, to);
-        position += lookup::size(cells, position);
+    for definition in Standing::between(cells, from, to) {
+        restore_one(heads, cells, definition, to);
     }
 }

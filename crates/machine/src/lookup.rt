@@ -1,5 +1,6 @@
 // Walks over the cells. Each makes at most so many turns, and answers NOWHERE where what it looks for is not there.
-ghost use Rattle.std.specs.Prelude.{◌≡◌, ◌+◌, ◌≤◌, length};
+ghost use Rattle.std.specs.Prelude.{◌≡◌, ◌+◌, ◌-◌, ◌≤◌, ◌<◌, ◌⊎◌, length, MatchOption};
+ghost use Rattle.std.specs.Iterator.{at_most};
 ghost use Rattle.language.specs.Signs.{cells_limit};
 ghost use Rattle.machine.specs.Walks.{nowhere, argument, is_one, chosen, size, is_named, newest, definitions, is_read};
 
@@ -101,21 +102,53 @@ pub(crate) fn size(cells: &[u32], definition: usize) -> usize
 }
 
 // How many definitions stand from one position to another.
-#[tactic(auto, using(crate::proofs::Turns::definitions_turn, crate::proofs::Turns::definitions_done))]
 pub(crate) fn definitions(cells: &[u32], from: usize, to: usize) -> usize
     requires { (length cells.now ≤ cells_limit) × (from ≤ 4294967296) × (to ≤ 4294967296) }
     ensures { result ≡ definitions cells.now from to }
 {
-    let mut position = from;
-    let mut count = 0;
-    for _ in 0..cells.len() {
-        if position >= to {
-            return count;
+    Standing::between(cells, from, to).count()
+}
+
+// The positions of the definitions from one position to another, at most as many as there are cells.
+#[derive(Drop)]
+pub(crate) struct Standing<'a> {
+    cells: &'a [u32],
+    position: usize,
+    to: usize,
+    turns: usize,
+}
+
+impl<'a> Standing<'a> {
+    pub(crate) fn between(cells: &'a [u32], from: usize, to: usize) -> Standing<'a>
+        ensures { (result.cells.now ≡ cells.now) × (result.position ≡ from) × (result.to ≡ to) × (result.turns ≡ length cells.now) }
+    {
+        Standing {
+            cells,
+            position: from,
+            to,
+            turns: cells.len(),
         }
-        position += size(cells, position);
-        count += 1;
     }
-    count
+}
+
+impl<'a> Iterator for Standing<'a> {
+    type Item = usize;
+
+    ghost can_next = { λ s. s.to ≤ 4294967296 };
+
+    ghost next_gives = { λ s r t. (t.cells.now ≡ s.cells.now) × (t.to ≡ s.to) × MatchOption r ((s.turns ≡ 0) ⊎ (s.to ≤ s.position)) (λ p. (p ≡ s.position) × (p < s.to) × (t.position ≡ p + size s.cells.now p) × (0 < s.turns) × (t.turns ≡ s.turns - 1)) };
+
+    ghost remaining = { λ s. at_most s.turns };
+
+    fn next(&mut self) -> Option<usize> {
+        if self.turns == 0 || self.position >= self.to {
+            return None;
+        }
+        let definition = self.position;
+        self.position += size(self.cells, definition);
+        self.turns -= 1;
+        Some(definition)
+    }
 }
 
 // Whether the body of a definition is being read.

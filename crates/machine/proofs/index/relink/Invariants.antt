@@ -1,5 +1,5 @@
 -- With the turns that are left, the walk from the present place leaves the cells that the whole walk leaves.
-use Rattle.std.proofs.Common.{◌≡◌, ◌+◌, ◌-◌, ◌*◌, ◌≤◌, length}
+use Rattle.std.proofs.Common.{◌≡◌, ◌-◌, length}
 use Rattle.machine.specs.Walks.{relinked_from, relinked}
 use Rattle.machine.proofs.index.relink.Given as goal
 

@@ -1,7 +1,9 @@
--- With the turns that are left, the walk from the present place leaves the heads that the whole walk leaves.
-use Rattle.std.proofs.Common.{◌≡◌, ◌+◌, ◌-◌, ◌*◌, ◌≤◌, length}
+-- The definitions that are left, restored from the present heads, leave the heads that the whole walk leaves.
+use Rattle.std.proofs.Common.{◌≡◌}
 use Rattle.machine.specs.Walks.{restored_from, restored}
 use Rattle.machine.proofs.index.restore.Given as goal
 
-abbrev pub invariant-loop : goal.invariant-loop
-invariant-loop l = restored_from (length l.cells - l.counter) l.cells l.heads l.position l.to ≡ restored l.cells l.initial.heads l.from l.to
+abbrev pub invariant-loop-definition : goal.invariant-loop-definition
+invariant-loop-definition l =
+    let left = l.definition-iterator in
+    (left.cells.now ≡ l.cells) × (left.to ≡ l.to) × (restored_from left.turns l.cells l.heads left.position l.to ≡ restored l.cells l.initial.heads l.from l.to)

@@ -1,5 +1,5 @@
 -- With the arguments that are due, the walk from the present position answers what the whole walk answers.
-use Rattle.std.proofs.Common.{◌≡◌, ◌+◌, ◌-◌, ◌*◌, ◌≤◌, length}
+use Rattle.std.proofs.Common.{◌≡◌, ◌+◌, ◌-◌, ◌*◌, ◌≤◌}
 use Rattle.machine.specs.Walks.{argument}
 use Rattle.machine.proofs.lookup.argument.Given as goal
 

@@ -1,5 +1,5 @@
 -- With the turns that are left, the walk over the pairs behind the present argument answers what the whole walk answers.
-use Rattle.std.proofs.Common.{◌≡◌, ◌+◌, ◌-◌, ◌*◌, ◌≤◌, length}
+use Rattle.std.proofs.Common.{◌≡◌, ◌-◌, length}
 use Rattle.machine.specs.Walks.{chosen_from, chosen}
 use Rattle.machine.proofs.lookup.chosen.Given as goal
 

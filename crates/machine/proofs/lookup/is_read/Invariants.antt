@@ -1,5 +1,5 @@
 -- With the turns that are left, the walk from the present list answers what the whole walk answers.
-use Rattle.std.proofs.Common.{◌≡◌, ◌+◌, ◌-◌, ◌*◌, ◌≤◌, length}
+use Rattle.std.proofs.Common.{◌≡◌, ◌-◌, ◌≤◌, length}
 use Rattle.machine.specs.Walks.{is_read_from, is_read}
 use Rattle.machine.proofs.lookup.is_read.Given as goal
 

@@ -1,5 +1,5 @@
 -- With the turns that are left, the walk from the present place answers what the whole walk answers.
-use Rattle.std.proofs.Common.{◌≡◌, ◌+◌, ◌-◌, ◌*◌, ◌≤◌, length}
+use Rattle.std.proofs.Common.{◌≡◌, ◌-◌, length}
 use Rattle.machine.specs.Walks.{newest_from, newest}
 use Rattle.machine.proofs.lookup.newest.Given as goal
 
