@@ -110,7 +110,7 @@ fn quotient(dividend: i32, divisor: i32) -> Result<i32, Refusal>
         return Err(Refusal::DivisorZero);
     }
     if divisor == -1 {
-        return ranged(-i64::from(dividend));
+        return dividend.checked_neg().ok_or(Refusal::ResultOutOfRange);
     }
     Ok(divide(dividend, divisor).quotient)
 }

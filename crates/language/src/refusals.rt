@@ -1,7 +1,7 @@
 // What a call is refused for before its first scan: the sizes lent, then the checks of a table that takes the place of the
 // standard one.
-ghost use Rattle.std.specs.Prelude.{◌≡◌, length};
-ghost use Rattle.language.specs.Refusals.{refused_by, not_a_table, has_kind, count_below, sign_not_one_byte, is_reserved, reserved_sign, sign_refusals, lent_refusals, refusal_in};
+ghost use Rattle.std.specs.Prelude.{◌≡◌, IfOk};
+ghost use Rattle.language.specs.Refusals.{refused_by, some_below, is_above, has_kind, count_below, sign_not_one_byte, is_reserved, reserved_sign, sign_refusals, lent_refusals, refusal_in};
 
 use crate::Sizes;
 use crate::outcomes::Outcome;
@@ -18,51 +18,60 @@ pub fn on_lent(sizes: Sizes, signs: &[u8]) -> Result<(), Outcome>
 }
 
 // The first of the signs.
-#[tactic(auto, unfolding(crate::specs::Refusals::refused_by), using(crate::proofs::Accepted::table_size))]
 pub fn on_signs(signs: &[u8]) -> Result<(), Outcome>
     ensures { refusal_in result ≡ refused_by (sign_refusals signs.now) }
 {
-    if not_a_table(signs) {
-        return Err(Outcome::NotATable);
-    }
-    if sign_not_one_byte(signs) {
-        return Err(Outcome::SignNotOneByte);
-    }
-    if reserved_sign(signs) {
-        return Err(Outcome::ReservedSign);
-    }
+    table(signs)?;
     Ok(())
 }
 
-// Not 256 bytes, or an entry above 6.
-fn not_a_table(signs: &[u8]) -> bool
-    ensures { result ≡ not_a_table signs.now }
+// The table that the signs are, or the first refusal.
+#[tactic(auto, unfolding(crate::specs::Refusals::refused_by))]
+pub fn table(signs: &[u8]) -> Result<&[u8; 256], Outcome>
+    ensures refusal { refusal_in result ≡ refused_by (sign_refusals signs.now) }
+    ensures ok { IfOk result (λ table. table.now ≡ signs.now) }
 {
-    signs.len() != 256 || signs.iter().any(|&kind| kind > 6)
+    let Ok(table) = <&[u8; 256]>::try_from(signs) else {
+        return Err(Outcome::NotATable);
+    };
+    if has_another_kind(table) {
+        return Err(Outcome::NotATable);
+    }
+    if sign_not_one_byte(table) {
+        return Err(Outcome::SignNotOneByte);
+    }
+    if reserved_sign(table) {
+        return Err(Outcome::ReservedSign);
+    }
+    Ok(table)
+}
+
+// An entry above 6.
+fn has_another_kind(table: &[u8; 256]) -> bool
+    ensures { result ≡ some_below 256 (is_above table.now) }
+{
+    table.iter().any(|&kind| kind > 6)
 }
 
 // A kind from 1 to 6 with no byte or several.
-fn sign_not_one_byte(signs: &[u8]) -> bool
-    requires { length signs.now ≡ 256 }
-    ensures { result ≡ sign_not_one_byte signs.now }
+fn sign_not_one_byte(table: &[u8; 256]) -> bool
+    ensures { result ≡ sign_not_one_byte table.now }
 {
-    (1..7).any(|kind| bytes_of(signs, kind) != 1)
+    (1..7).any(|kind| bytes_of(table, kind) != 1)
 }
 
 // How many bytes have a kind.
-fn bytes_of(signs: &[u8], kind: u8) -> usize
-    requires { length signs.now ≡ 256 }
-    ensures { result ≡ count_below 256 (has_kind signs.now kind) }
+fn bytes_of(table: &[u8; 256], kind: u8) -> usize
+    ensures { result ≡ count_below 256 (has_kind table.now kind) }
 {
-    signs.iter().filter(|&&of| of == kind).count()
+    table.iter().filter(|&&of| of == kind).count()
 }
 
 // A letter, a digit, `+`, `-` or `*` with a kind other than 0.
-fn reserved_sign(signs: &[u8]) -> bool
-    requires { length signs.now ≡ 256 }
-    ensures { result ≡ reserved_sign signs.now }
+fn reserved_sign(table: &[u8; 256]) -> bool
+    ensures { result ≡ reserved_sign table.now }
 {
-    signs
+    table
         .iter()
         .enumerate()
         .any(|(byte, &kind)| is_reserved(byte as u8) && kind != 0)

@@ -7,5 +7,5 @@ use Rattle.language.proofs.refusals.bytes_of.Goals as goal
 pub returns : goal.returns
 returns c =
     let a = c.args in
-    let e : c.count.result ≡ count_by (λ x. nat_eq x a.kind) a.signs.now = search rules in
-    e ∙ counted_entries (λ x. nat_eq x a.kind) a.signs.now 256 c.requires
+    let e : c.count.result ≡ count_by (λ x. nat_eq x a.kind) a.table.now = search rules in
+    e ∙ counted_entries (λ x. nat_eq x a.kind) a.table.now 256 (search rules)

@@ -13,10 +13,10 @@ use Rattle.language.proofs.refusals.reserved_sign.Goals as goal
 
 pub returns : goal.returns
 returns c =
-    let s = c.args.signs.now in
+    let s = c.args.table.now in
     let passes : ℕ × ℕ → _ = λ (p : ℕ × ℕ). is_reserved p.0 && not (nat_eq p.1 0) in
     let e : c.any.result ≡ list_any passes (enumerate_from 0 s) = any_from_yields_List passes _ _ c.any.result c.any.ensures.ran (YieldsList-from_enumerate (YieldsList-from_slice s cc) (cc)) (λ x b q k. search (rules, tests)) in
-    e ∙ some_item passes (enumerate_from 0 s) (0, 0) (is_reserved_sign s) 256 (length-enumerate_from 0 s ∙ c.requires) (λ k below.
-    let inside : k < length s = omega (arith, c.requires) in
+    e ∙ some_item passes (enumerate_from 0 s) (0, 0) (is_reserved_sign s) 256 (length-enumerate_from 0 s ∙ (search rules)) (λ k below.
+    let inside : k < length s = omega arith in
     let at : get_or (enumerate_from 0 s) k (0, 0) ≡ (k, get_or s k 0) = get_or-enumerate_from 0 s k (0, 0) inside ∙ ap (λ (i : ℕ). (i, get_or s k 0)) (zero-add k) in
     ap passes at)
