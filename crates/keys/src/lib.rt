@@ -1,7 +1,7 @@
 // A script for given keys: the wanted bytes inside one pair of quotes of the signs in force.
 #![tactic(auto)]
 
-ghost use Rattle.std.specs.Prelude.{◌≡◌, ◌+◌, ◌≤◌, ◌<◌, length};
+ghost use Rattle.std.specs.Prelude.{◌≡◌, ◌+◌, ◌≤◌, ◌<◌, length, IfOk};
 ghost use Rattle.language.specs.Refusals.{refused_by, refusal_in};
 ghost use Rattle.language.specs.Signs.{kind_of};
 ghost use Rattle.language.specs.Matched.{depth_by, depth_after};
@@ -20,28 +20,29 @@ pub const WANTED_LIMIT: usize = 65534;
 pub fn script_for(signs: &[u8], wanted: &[u8], output: &mut [u8]) -> Result<u32, Outcome>
     ensures { Scripted (asked signs.now wanted.now output.old) (answered_in result output.new) }
 {
-    check(signs, wanted, output)?;
-    write_script(signs, wanted, output);
+    let table = check(signs, wanted, output)?;
+    write_script(table, wanted, output);
     Ok(wanted.len() as u32 + 2)
 }
 
-// The first refusal.
-fn check(signs: &[u8], wanted: &[u8], output: &[u8]) -> Result<(), Outcome>
-    ensures { refusal_in result ≡ refused_by (refusals (asked signs.now wanted.now output.now)) }
+// The table that the signs are, or the first refusal.
+fn check<'a>(signs: &'a [u8], wanted: &[u8], output: &[u8]) -> Result<&'a [u8; 256], Outcome>
+    ensures refusal { refusal_in result ≡ refused_by (refusals (asked signs.now wanted.now output.now)) }
+    ensures ok { IfOk result (λ table. table.now ≡ signs.now) }
 {
     if too_long(wanted.len(), output.len()) {
         return Err(Outcome::TooLarge);
     }
-    refusals::on_signs(signs)?;
-    check_script(signs, wanted, output)
+    let table = refusals::table(signs)?;
+    check_script(table, wanted, output)?;
+    Ok(table)
 }
 
 // The first of the script's own.
-fn check_script(signs: &[u8], wanted: &[u8], output: &[u8]) -> Result<(), Outcome>
-    requires { length signs.now ≡ 256 }
-    ensures { refusal_in result ≡ refused_by (script_refusals (asked signs.now wanted.now output.now)) }
+fn check_script(table: &[u8; 256], wanted: &[u8], output: &[u8]) -> Result<(), Outcome>
+    ensures { refusal_in result ≡ refused_by (script_refusals (asked table.now wanted.now output.now)) }
 {
-    if !quotes_match(signs, wanted) {
+    if !quotes_match(table, wanted) {
         return Err(Outcome::NoScript);
     }
     if output.len() < wanted.len() + 2 {
@@ -58,21 +59,19 @@ fn too_long(wanted: usize, output: usize) -> bool
 }
 
 // Whether every quote is closed by an unquote, and every unquote closes one.
-fn quotes_match(signs: &[u8], wanted: &[u8]) -> bool
-    requires { length signs.now ≡ 256 }
-    ensures { result ≡ matched signs.now wanted.now }
+fn quotes_match(table: &[u8; 256], wanted: &[u8]) -> bool
+    ensures { result ≡ matched table.now wanted.now }
 {
-    depth_after(signs, wanted) == Some(0)
+    depth_after(table, wanted) == Some(0)
 }
 
 // The depth of quotes after bytes, where every unquote closes a quote.
-fn depth_after(signs: &[u8], bytes: &[u8]) -> Option<usize>
-    requires { length signs.now ≡ 256 }
-    ensures { result ≡ depth_after signs.now 0 bytes.now }
+fn depth_after(table: &[u8; 256], bytes: &[u8]) -> Option<usize>
+    ensures { result ≡ depth_after table.now 0 bytes.now }
 {
     let mut depth = 0;
     for &byte in bytes {
-        let sign = Sign::from(signs[usize::from(byte)]);
+        let sign = Sign::from(table[usize::from(byte)]);
         depth = depth_by(sign, depth)?;
     }
     Some(depth)
@@ -90,21 +89,20 @@ fn depth_by(sign: Sign, depth: usize) -> Option<usize>
     }
 }
 
-fn write_script(signs: &[u8], wanted: &[u8], output: &mut [u8])
-    requires { (length signs.now ≡ 256) × (length wanted.now + 2 ≤ length output.old) }
-    ensures { output.new ≡ overwritten (script signs.now wanted.now) output.old }
+fn write_script(table: &[u8; 256], wanted: &[u8], output: &mut [u8])
+    requires { length wanted.now + 2 ≤ length output.old }
+    ensures { output.new ≡ overwritten (script table.now wanted.now) output.old }
 {
     let end = wanted.len() + 1;
-    output[0] = byte_of(signs, Sign::Quote);
+    output[0] = byte_of(table, Sign::Quote);
     output[1..end].copy_from_slice(wanted);
-    output[end] = byte_of(signs, Sign::Unquote);
+    output[end] = byte_of(table, Sign::Unquote);
 }
 
 // The byte of a sign.
-fn byte_of(signs: &[u8], sign: Sign) -> u8
-    requires { length signs.now ≡ 256 }
-    ensures { result ≡ byte_of signs.now (kind_of sign) }
+fn byte_of(table: &[u8; 256], sign: Sign) -> u8
+    ensures { result ≡ byte_of table.now (kind_of sign) }
 {
     let kind = u8::from(sign);
-    signs.iter().rposition(|&of| of == kind).unwrap_or(0) as u8
+    table.iter().rposition(|&of| of == kind).unwrap_or(0) as u8
 }

@@ -1,6 +1,6 @@
 -- What an applied call can do, whichever it is: a body that is read is that of a standing definition, a definition has the two
 -- parameters of DEF, the first of which is its name and not empty, and every fault is one of the text.
-use Rattle.std.specs.Prelude.{ℤ, Result, Ok, Err}
+use Rattle.std.specs.Prelude.{ℤ, Result}
 use Prim.Native.Nat.{ℕ, ◌<◌}
 use native.Mathlib.Omega.{arith}
 use mathlib.Core.Path.{◌≡◌, refl}

@@ -1,6 +1,6 @@
 -- Document 01, Quotes: "Every collected string so has matched quotes: a body never shows an unquoted `>` and never ends
 -- inside quotes, which is to be shown."
-use Rattle.std.specs.Prelude.{ℤ, Result, Ok, Err}
+use Rattle.std.specs.Prelude.{ℤ, Result}
 use Prim.Native.Nat.{ℕ, zero, suc, pred, ◌<◌, ◌+◌, ◌-◌, ◌/◌, ◌%◌}
 use native.Mathlib.Omega.{arith}
 use native.Mathlib.Nat.{mod-lt}

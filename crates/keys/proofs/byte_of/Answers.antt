@@ -7,4 +7,4 @@ use Rattle.keys.proofs.Writing.{last_found}
 use Rattle.keys.proofs.byte_of.Goals as goal
 
 pub returns : goal.returns
-returns c = c.unwrap_or.ensures ∙ last_found 256 (has_kind c.args.signs.now (kind_of c.args.sign)) c.rposition.result (search (rules, chains))
+returns c = c.unwrap_or.ensures ∙ last_found 256 (has_kind c.args.table.now (kind_of c.args.sign)) c.rposition.result (search (rules, chains))

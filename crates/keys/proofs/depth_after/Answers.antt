@@ -10,13 +10,13 @@ use Rattle.keys.proofs.depth_after.Goals as goal
 pub returns-in_err-depth : goal.returns-in_err-depth
 returns-in_err-depth c =
     let l = c.loop-byte in
-    let sign : c.from-sign.result ≡ sign_of c.args.signs.now (get_or c.args.bytes.now l.byte-index 0) = c.from-sign.ensures ∙ ap (sign_of c.args.signs.now) c.from.ensures in
+    let sign : c.from-sign.result ≡ sign_of c.args.table.now (get_or c.args.bytes.now l.byte-index 0) = c.from-sign.ensures ∙ ap (sign_of c.args.table.now) c.from.ensures in
     rw c.from_residual.ensures (sym (matching_lost l.invariant (omega arith) (ap (λ (g : Sign). depth_by g l.depth) (sym sign) ∙ sym (c.in_err-depth.ensures))))
 
 pub loop-byte-preserved : goal.loop-byte-preserved
 loop-byte-preserved c =
     let l = c.loop-byte in
-    let sign : c.from-sign.result ≡ sign_of c.args.signs.now (get_or c.args.bytes.now l.byte-index 0) = c.from-sign.ensures ∙ ap (sign_of c.args.signs.now) c.from.ensures in
+    let sign : c.from-sign.result ≡ sign_of c.args.table.now (get_or c.args.bytes.now l.byte-index 0) = c.from-sign.ensures ∙ ap (sign_of c.args.table.now) c.from.ensures in
     matching_step l.invariant (omega arith) (ap (λ (g : Sign). depth_by g l.depth) (sym sign) ∙ sym (c.in_ok-depth.ensures))
 
 pub returns : goal.returns

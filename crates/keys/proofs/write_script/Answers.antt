@@ -4,4 +4,4 @@ use Rattle.keys.proofs.write_script.Goals as goal
 
 pub returns : goal.returns
 returns c =
-    written-script c.args.signs.now c.args.wanted.now c.args.output.now c.requires.1 c.byte_of.ensures c.copy_from_slice.ensures.after c.byte_of-2.ensures
+    written-script c.args.table.now c.args.wanted.now c.args.output.now c.requires c.byte_of.ensures c.copy_from_slice.ensures.after c.byte_of-2.ensures
