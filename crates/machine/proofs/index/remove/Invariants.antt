@@ -1,4 +1,4 @@
--- The definitions that are left, removed from the present heads, leave the heads that the whole walk leaves.
+-- The definitions that are left, taken out of the present heads, leave the heads that the whole walk leaves.
 use Rattle.std.proofs.Common.{◌≡◌}
 use Rattle.machine.specs.Walks.{removed_from, removed}
 use Rattle.machine.proofs.index.remove.Given as goal

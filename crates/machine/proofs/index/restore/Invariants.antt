@@ -1,4 +1,4 @@
--- The definitions that are left, restored from the present heads, leave the heads that the whole walk leaves.
+-- The definitions that are left, put back over the present heads, leave the heads that the whole walk leaves.
 use Rattle.std.proofs.Common.{◌≡◌}
 use Rattle.machine.specs.Walks.{restored_from, restored}
 use Rattle.machine.proofs.index.restore.Given as goal
