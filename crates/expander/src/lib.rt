@@ -173,8 +173,8 @@ fn run_to_end(
 }
 
 impl Report {
-    // "all counts 0"
-    fn refused(outcome: Outcome) -> Report
+    // Of a call that is refused: "all counts 0".
+    pub fn refused(outcome: Outcome) -> Report
         ensures { result ≡ refused_with (number_of outcome) }
     {
         Report {
