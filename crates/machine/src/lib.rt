@@ -54,8 +54,7 @@ pub fn go_on(
 fn portion(allowance: u64, made: u64) -> u64
     ensures { (result ≡ portion allowance made) × (made + result ≤ last_scan) }
 {
-    let most = 18446744073709551615 - made;
-    if allowance < most { allowance } else { most }
+    allowance.min(u64::MAX - made)
 }
 
 // All scans at once, or one by one where each is to be noted. The inner loop has one caller, so that the compiler puts a scan

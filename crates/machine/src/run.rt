@@ -1,6 +1,6 @@
 // The standing of a run in lent cells, by value. The cells before `left` hold the calls being collected, the innermost last;
 // those from `right` on hold the definitions and the lists of the bodies being read, the newest first.
-ghost use Rattle.std.specs.Prelude.{◌≡◌, ◌+◌, ◌<◌, max};
+ghost use Rattle.std.specs.Prelude.{◌≡◌, ◌+◌, ◌<◌};
 ghost use Rattle.machine.specs.declared.run.Answer.TheVariants.{GoesOn, Ended, Damaged};
 ghost use Rattle.machine.specs.Machine.{fresh, charged, collected, wrote};
 ghost use Rattle.machine.specs.Moving.{places_below, is_in_range};
@@ -124,49 +124,25 @@ impl Run {
     pub(crate) fn is_in_range(self, cells: usize, output: usize) -> bool
         ensures { result ≡ is_in_range self cells output }
     {
-        if cells > Sizes::CELLS_LIMIT {
-            return false;
-        }
-        if self.right > cells {
-            return false;
-        }
-        if self.calls.left > self.right {
-            return false;
-        }
-        if self.charge > cells {
-            return false;
-        }
-        if self.charge + self.right != self.calls.left + cells {
-            return false;
-        }
-        if self.counts.live > Sizes::CELLS_LIMIT {
-            return false;
-        }
-        if self.counts.written > output {
-            return false;
-        }
-        self.places_are_below()
+        cells <= Sizes::CELLS_LIMIT
+            && self.right <= cells
+            && self.calls.left <= self.right
+            && self.charge <= cells
+            && self.charge + self.right == self.calls.left + cells
+            && self.counts.live <= Sizes::CELLS_LIMIT
+            && self.counts.written <= output
+            && self.places_are_below()
     }
 
     fn places_are_below(self) -> bool
         ensures { result ≡ places_below self }
     {
-        if self.calls.call > Run::NOWHERE {
-            return false;
-        }
-        if self.calls.hand > Sizes::CELLS_LIMIT {
-            return false;
-        }
-        if self.source.list > Run::NOWHERE {
-            return false;
-        }
-        if self.source.body > Run::NOWHERE {
-            return false;
-        }
-        if self.source.offset > 4294967296 {
-            return false;
-        }
-        self.quotes as u64 <= self.counts.scans
+        self.calls.call <= Run::NOWHERE
+            && self.calls.hand <= Sizes::CELLS_LIMIT
+            && self.source.list <= Run::NOWHERE
+            && self.source.body <= Run::NOWHERE
+            && self.source.offset <= 4294967296
+            && self.quotes as u64 <= self.counts.scans
     }
 
     // The charge raised by so many cells, and the most that was charged.
@@ -174,10 +150,8 @@ impl Run {
         requires { self.charge + cells < 4294967296 }
         ensures { result ≡ charged cells self }
     {
-        let charge = self.charge + cells;
-        let most = larger(self.counts.most, charge);
-        self.counts.most = most;
-        self.charge = charge;
+        self.charge += cells;
+        self.counts.most = self.counts.most.max(self.charge);
         self
     }
 
@@ -187,8 +161,7 @@ impl Run {
         ensures { result ≡ collected cells self }
     {
         let mut run = self.charged(cells);
-        let left = self.calls.left + cells;
-        run.calls.left = left;
+        run.calls.left += cells;
         run
     }
 
@@ -197,14 +170,7 @@ impl Run {
         requires { self.counts.written + bytes < 18446744073709551616 }
         ensures { result ≡ wrote bytes self }
     {
-        let written = self.counts.written + bytes;
-        self.counts.written = written;
+        self.counts.written += bytes;
         self
     }
-}
-
-fn larger(a: usize, b: usize) -> usize
-    ensures { result ≡ max a b }
-{
-    if a < b { b } else { a }
 }
