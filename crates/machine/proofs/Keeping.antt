@@ -14,7 +14,7 @@ use Rattle.language.specs.Signs.{cells_limit, sign_of}
 use Rattle.language.specs.BuiltIns as B
 use Rattle.language.specs.Charge.{open_price}
 use Rattle.language.specs.Expansion.{Lent}
-use Rattle.std.specs.Prelude.{Option, None, Some, Result, Ok, Err}
+use Rattle.std.specs.Prelude.{Option, None, Some, IfSome, Result, Ok, Err}
 use Rattle.decimal.specs.declared.operations.Refusal.{Refusal}
 use Rattle.decimal.specs.Shortest.{digits}
 use Rattle.language.specs.declared.outcomes.Outcome.{Outcome}
@@ -210,10 +210,12 @@ module _ (m : Lent) where
           go None = ends
           go (Some b) = ends
 
+      given_kept : (name : ℕ) (done : ℕ → After) (x : Option ℕ) → ((d : ℕ) → Kept n k r.counts.scans (done d)) → Kept n k r.counts.scans (M.given r name done x m)
+      given_kept name done None found = refuse_kept name
+      given_kept name done (Some d) found = found d
+
       val_kept : (name : ℕ) → Kept n k r.counts.scans (M.val r name h m)
-      val_kept name =
-          let d = newest l h name in
-          choose (eqb d nowhere) (λ t. refuse_kept name) (λ t. placing_kept _ _ (give_kept (value_length l d)))
+      val_kept name = given_kept name (λ d. M.val_at r d m) (newest l h name) (λ d. placing_kept _ _ (give_kept (value_length l d)))
 
       -- the call ends, whatever the cells then hold
       altered_kept : {m' : Lent} → Kept n k r.counts.scans (record { run = (M.release r 0 m).run; answer = (M.release r 0 m).answer; lent = m' })
@@ -221,14 +223,13 @@ module _ (m : Lent) where
 
       update_kept : (name value : ℕ) → Kept n k r.counts.scans (M.update r name value h m)
       update_kept name value =
-          let d = newest l h name in
-          choose (eqb d nowhere) (λ t. refuse_kept name)
-          (λ t. choose (is_locked l d) (λ t. ends)
+          given_kept name (λ d. M.update_at r value d m) (newest l h name) λ d.
+          choose (is_locked l d) (λ t. ends)
           (λ t. choose (is_read l r.source.list r.source.body d) (λ t. ends)
-          (λ t. choose (ltb (room l d) (get_or l value 0)) (λ t. ends) (λ t. altered_kept))))
+          (λ t. choose (ltb (room l d) (get_or l value 0)) (λ t. ends) (λ t. altered_kept)))
 
       lock_kept : (name : ℕ) → Kept n k r.counts.scans (M.lock r name h m)
-      lock_kept name = choose (eqb (newest l h name) nowhere) (λ t. refuse_kept name) (λ t. altered_kept)
+      lock_kept name = given_kept name (λ d. M.lock_in r d m) (newest l h name) (λ d. altered_kept)
 
       answer_kept : (x : Result (List ℕ) Refusal) → Kept n k r.counts.scans (M.give_answer r x m)
       answer_kept (Ok t) = placing_kept _ _ (give_kept (length t))
@@ -272,9 +273,14 @@ module _ (m : Lent) where
           goes (search rules) w refl
 
       marked_kept : KeptIn n k r.counts.scans (M.apply_marked r h m)
-      marked_kept =
-          let d = newest l h (r.calls.call + arguments_from) in
-          choose_in (eqb d nowhere) (λ t. built_in_kept (r.calls.call + arguments_from)) (λ t. record { is = read_kept d (found_below l h (r.calls.call + arguments_from) refl s.cells_lent) })
+      marked_kept = go (newest l h name) (found_below l h name)
+        where
+          name : ℕ
+          name = r.calls.call + arguments_from
+
+          go : (x : Option ℕ) → IfSome x (λ d. d < n) → KeptIn n k r.counts.scans (M.apply_found r x h m)
+          go None below = built_in_kept name
+          go (Some d) below = record { is = read_kept d (omega (arith, s.cells_lent)) }
 
 -- One scan -----------------------------------------------------------------------------------------------------------
 

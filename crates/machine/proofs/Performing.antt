@@ -12,7 +12,7 @@ use Rattle.decimal.specs.declared.operations.Operation.{Operation}
 use Rattle.decimal.specs.Arithmetic.{calculated}
 use Rattle.decimal.specs.Shortest.{digits_of, digits, shortest}
 use Rattle.std.proofs.Math.Seq.{take-length}
-use Rattle.std.specs.Prelude.{ℤ, Result, Ok, Err}
+use Rattle.std.specs.Prelude.{ℤ, Option, Result, Ok, Err}
 use Rattle.decimal.specs.declared.operations.Refusal.{Refusal}
 use Rattle.decimal.specs.declared.operations.Refusal.TheVariants as Arithmetical
 use Rattle.decimal.specs.Answers.{answer_of}
@@ -35,7 +35,7 @@ use Rattle.language.proofs.Demand.{built_ins_free}
 use Rattle.memory.specs.Block.{block, placed, moved, copied, low_bytes}
 use Rattle.memory.proofs.Blocks.{moved_in, copied_in, length-low_bytes}
 use Rattle.machine.specs.declared.run.Run.{Run}
-use Rattle.machine.specs.Walks.{nowhere, head_size, name_length, value_length, argument, chosen, newest, is_read, compare, calculate, with_lock, room, with_value_length}
+use Rattle.machine.specs.Walks.{nowhere, head_size, name_length, argument, chosen, newest, is_read, compare, calculate, with_lock, room, with_value_length}
 use Rattle.machine.specs.Machine as M
 use Rattle.machine.proofs.Items.{encode-append, width-append}
 use Rattle.machine.proofs.Moves.{made_all, made_laid, made_bodies, made_valid}
@@ -228,10 +228,9 @@ module _ {n : ℕ} {heads whole start : List ℕ} {r : Run} {l o : List ℕ} {s 
       → ((d k : ℕ) (m : D.Macro) → Defines n b l r.right its d k (parameter 1 list) m → D.newest (parameter 1 list) s.standing.definitions ≡ found k (macro m)
       → Ended (done d) (S.perform (limits_of n (length start)) (f (found k (macro m))) c cs s))
       → Ended
-      (cond (eqb (newest l heads (argument l name 1)) nowhere) (M.refuse_name r (argument l name 1) (lent l o))
-      (done (newest l heads (argument l name 1))))
+      (M.given r (argument l name 1) done (newest l heads (argument l name 1)) (lent l o))
       (S.perform (limits_of n (length start)) (f (D.newest (parameter 1 list) s.standing.definitions)) c cs s)
-  given_sim long f unfound builtin done does = go (newest l heads q) (found' q t x)
+  given_sim long f unfound builtin done does = go (found' q t x)
     where
       q : ℕ
       q = argument l name 1
@@ -242,20 +241,20 @@ module _ {n : ℕ} {heads whole start : List ℕ} {r : Run} {l o : List ℕ} {s 
       x : TextAt l q t
       x = text_is 1 long
 
-      go : (d : ℕ) → Newest n b l r.right its t d
-          → Ended (cond (eqb d nowhere) (M.refuse_name r q (lent l o)) (done d)) (S.perform (limits_of n (length start)) (f (D.newest t s.standing.definitions)) c cs s)
-      go d (absent e h) =
+      go : {d : Option ℕ} → Newest n b l r.right its t d
+          → Ended (M.given r q done d (lent l o)) (S.perform (limits_of n (length start)) (f (D.newest t s.standing.definitions)) c cs s)
+      go (absent h) =
           let g : D.newest t s.standing.definitions ≡ D.newest t built_ins = ap (D.newest t) definitions_are ∙ h built_ins in
-          rw (e, g) (refuse_sim q t x (D.newest t built_ins) (built_ins_only t) refl f unfound builtin)
-      go d (present {k} {c = m} at h) =
+          rw g (refuse_sim q t x (D.newest t built_ins) (built_ins_only t) refl f unfound builtin)
+      go (present {d} {k} {c = m} at h) =
           let g : D.newest t s.standing.definitions ≡ found k (macro m) = ap (D.newest t) definitions_are ∙ h built_ins refl in
-          rw (ne_eqb d nowhere (λ (e : d ≡ nowhere). absurd (omega (arith, at.below))), g) (does d k m at g)
+          rw g (does d k m at g)
 
   val_sim : (long : 1 < length list)
       → Ended (M.val r (argument l name 1) heads (lent l o))
       (S.perform (limits_of n (length start)) (value_of (D.newest (parameter 1 list) s.standing.definitions)) c cs s)
   val_sim long =
-      given_sim long value_of refl (λ k bi. refl) (λ d. M.give_block r (d + head_size + name_length l d) (value_length l d) (lent l o)) λ d k m at g.
+      given_sim long value_of refl (λ k bi. refl) (λ d. M.val_at r d (lent l o)) λ d k m at g.
       let from = d + head_size + length (parameter 1 list) in
       let vo : Octets m.value = value_octets (parameter 1 list) s.standing.definitions k m oct.definitions g in
       let fit : from + length m.value ≤ n = omega (arith, at.within, at.cells.fits) in
@@ -500,17 +499,17 @@ module _ {n : ℕ} {heads whole start : List ℕ} {r : Run} {l o : List ℕ} {s 
 
   pub marked_sim : Sim (M.apply_marked r heads (lent l o)) (S.perform (limits_of n (length start)) (deed (S.reading s.bodies) list s.standing.definitions) c cs s)
   unfolding deed
-  marked_sim = go (newest l heads name) (found' name (parameter 0 list) name_text)
+  marked_sim = go (found' name (parameter 0 list) name_text)
     where
       t : Bytes
       t = parameter 0 list
 
-      go : (d : ℕ) → Newest n b l r.right its t d
+      go : {d : Option ℕ} → Newest n b l r.right its t d
           → Sim (M.apply_found r d heads (lent l o))
           (S.perform (limits_of n (length start)) (deed_of (S.reading s.bodies) list s.standing.definitions (D.newest t s.standing.definitions)) c cs s)
-      go d (absent e f) =
+      go (absent f) =
           let g : D.newest t s.standing.definitions ≡ D.newest t built_ins = ap (D.newest t) definitions_are ∙ f built_ins in
-          rw (e, g) (own_sim (D.newest t built_ins) (built_ins_only t) refl)
-      go d (present {k} {c = m} at f) =
+          rw g (own_sim (D.newest t built_ins) (built_ins_only t) refl)
+      go (present {d} {k} {c = m} at f) =
           let g : D.newest t s.standing.definitions ≡ found k (macro m) = ap (D.newest t) definitions_are ∙ f built_ins refl in
-          rw (ne_eqb d nowhere (λ (e : d ≡ nowhere). absurd (omega (arith, at.below))), g) (read_sim d k m at)
+          rw g (read_sim d k m at)

@@ -5,6 +5,7 @@ use mathlib.Core.List.{List, [], ◌∷◌, ◌++◌}
 use mathlib.Core.Logic.{◌⊎◌}
 use mathlib.Core.Path.{◌≡◌, refl, sym, ◌∙◌}
 use native.Mathlib.Omega.{arith}
+use Rattle.std.specs.Prelude.{None, Some}
 use lib.ListN.{length, get_or}
 use lib.Dec.{eqb, leb}
 use borrow.Author.Tests.{le-leb, lt-leb}
@@ -54,11 +55,11 @@ module _ (l : List ℕ) where
   pub newest_turn :
       (p name count n i : ℕ) → i < n
       → newest_from (n - i) l p name count
-      ≡ cond (leb (length l) p) nowhere (cond (is_named l p name count) p (newest_from (n - (i + 1)) l (group_link l p) name count))
+      ≡ cond (leb (length l) p) None (cond (is_named l p name count) (Some p) (newest_from (n - (i + 1)) l (group_link l p) name count))
   unfolding newest_from
   newest_turn p name count n i h = rw (left n i h)
 
-  pub newest_done : (p name count n i : ℕ) → n ≤ i → newest_from (n - i) l p name count ≡ nowhere
+  pub newest_done : (p name count n i : ℕ) → n ≤ i → newest_from (n - i) l p name count ≡ None
   unfolding newest_from
   newest_done p name count n i h = rw (none_left n i h)
 

@@ -431,14 +431,17 @@ refuse_named (Some b) r m = ends Outcomes.BuiltIn r m
 abbrev pub refuse_name : Run → ℕ → Lent → After
 refuse_name r name m = refuse_named (built_in_named m.cells name) r m
 
+-- what is done with the definition that was found under a name, if one was
+abbrev pub given : Run → ℕ → (ℕ → After) → Option ℕ → Lent → After
+given r name done None m = refuse_name r name m
+given r name done (Some d) m = done d
+
 -- VAL
-abbrev pub val_of : Run → ℕ → ℕ → Lent → After
-val_of r name d m =
-    let l = m.cells in
-    cond (eqb d nowhere) (refuse_name r name m) (give_block r (d + head_size + name_length l d) (value_length l d) m)
+abbrev pub val_at : Run → ℕ → Lent → After
+val_at r d m = let l = m.cells in give_block r (d + head_size + name_length l d) (value_length l d) m
 
 abbrev pub val : Run → ℕ → List ℕ → Lent → After
-val r name h m = val_of r name (newest m.cells h name) m
+val r name h m = given r name (λ d. val_at r d m) (newest m.cells h name) m
 
 -- UPDATE: "15 for the name given, 19", 36, "20, 21"
 abbrev pub update_in : Run → ℕ → ℕ → Lent → After
@@ -457,11 +460,8 @@ update_at r value d m =
     cond (is_locked m.cells d) (ends Locked r m)
     (cond (is_read m.cells r.source.list r.source.body d) (ends BodyBeingRead r m) (update_in r value d m))
 
-abbrev pub update_of : Run → ℕ → ℕ → ℕ → Lent → After
-update_of r name value d m = cond (eqb d nowhere) (refuse_name r name m) (update_at r value d m)
-
 abbrev pub update : Run → ℕ → ℕ → List ℕ → Lent → After
-update r name value h m = update_of r name value (newest m.cells h name) m
+update r name value h m = given r name (λ d. update_at r value d m) (newest m.cells h name) m
 
 -- the arithmetic
 abbrev pub give_answer : Run → Result (List ℕ) Refusal → Lent → After
@@ -483,11 +483,8 @@ choose r name m = choose_at r name (chosen m.cells name) m
 abbrev pub lock_in : Run → ℕ → Lent → After
 lock_in r d m = let a = release r 0 m in record { run = a.run; answer = a.answer; lent = with_cells (with_lock m.cells d) m }
 
-abbrev pub lock_of : Run → ℕ → ℕ → Lent → After
-lock_of r name d m = cond (eqb d nowhere) (refuse_name r name m) (lock_in r d m)
-
 abbrev pub lock : Run → ℕ → List ℕ → Lent → After
-lock r name h m = lock_of r name (newest m.cells h name) m
+lock r name h m = given r name (λ d. lock_in r d m) (newest m.cells h name) m
 
 -- the built-in that has its parameters, the list of its call being at `name`: "Surplus parameters are ignored." IF has none that
 -- are surplus
@@ -534,9 +531,9 @@ read_body r definition m =
     goes (body_begun r definition (r.right - size) (return_link m.cells r.calls.call))
     (with_cells (list_moved r (r.right - size) size m.cells) m)
 
-abbrev pub apply_found : Run → ℕ → List ℕ → Lent → Indexed
-apply_found r definition h m =
-    cond (eqb definition nowhere) (apply_built_in r (r.calls.call + arguments_from) h m) (keeping h (read_body r definition m))
+abbrev pub apply_found : Run → Option ℕ → List ℕ → Lent → Indexed
+apply_found r None h m = apply_built_in r (r.calls.call + arguments_from) h m
+apply_found r (Some d) h m = keeping h (read_body r d m)
 
 abbrev pub apply_marked : Run → List ℕ → Lent → Indexed
 apply_marked r h m = apply_found r (newest m.cells h (r.calls.call + arguments_from)) h m

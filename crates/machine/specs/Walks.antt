@@ -131,15 +131,15 @@ definition_group l p = group (block (p + head_size) (name_length l p) l)
 abbrev pub is_named : List ℕ → ℕ → ℕ → ℕ → Bool
 is_named l p name count = cond (eqb (name_length l p) count) (same_blocks (p + head_size) (name + 1) count l) false
 
-unfoldable pub newest_from : ℕ → List ℕ → ℕ → ℕ → ℕ → ℕ
-newest_from zero l p name count = nowhere
+unfoldable pub newest_from : ℕ → List ℕ → ℕ → ℕ → ℕ → Option ℕ
+newest_from zero l p name count = None
 newest_from (suc t) l p name count =
     let r = newest_from t l (group_link l p) name count in
-    cond (leb (length l) p) nowhere (cond (is_named l p name count) p r)
+    cond (leb (length l) p) None (cond (is_named l p name count) (Some p) r)
 
--- "A lookup reads one group": the newest definition with the name at a length cell, or nowhere. `heads` are where the newest
--- definition of each group stands, or the mark.
-abbrev pub newest : List ℕ → List ℕ → ℕ → ℕ
+-- "A lookup reads one group": the newest definition with the name at a length cell. `heads` are where the newest definition of each
+-- group stands, or the mark.
+abbrev pub newest : List ℕ → List ℕ → ℕ → Option ℕ
 newest l heads name = newest_from (length l) l (get_or heads (name_group l name) 0) name (get_or l name 0)
 
 unfoldable pub definitions_from : ℕ → List ℕ → ℕ → ℕ → ℕ

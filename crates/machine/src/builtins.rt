@@ -201,10 +201,9 @@ impl Run {
         requires { (Marked (length cells.old) self) × (self.counts.written ≤ length output.old) × (name ≤ 8589934592) }
         ensures { leaves result (lent cells.new output.new) ≡ val self name heads.now (lent cells.old output.old) }
     {
-        let found = lookup::newest(cells, heads, name);
-        if found == Run::NOWHERE {
+        let Some(found) = lookup::newest(cells, heads, name) else {
             return self.refuse_name(name, cells);
-        }
+        };
         let count = layout::value_length(cells, found) as usize;
         let letters = layout::name_length(cells, found) as usize;
         self.give_block(found + layout::HEAD_SIZE + letters, count, cells, output)
@@ -226,10 +225,9 @@ impl Run {
         requires { (Marked (length cells.old) self) × (name ≤ 8589934592) × (value ≤ 8589934592) }
         ensures { (o : List ℕ) → leaves result (lent cells.new o) ≡ update self name value heads.now (lent cells.old o) }
     {
-        let found = lookup::newest(cells, heads, name);
-        if found == Run::NOWHERE {
+        let Some(found) = lookup::newest(cells, heads, name) else {
             return self.refuse_name(name, cells);
-        }
+        };
         if layout::is_locked(cells, found) {
             return self.ends_with(Outcome::Locked);
         }
@@ -273,10 +271,9 @@ impl Run {
         requires { (Marked (length cells.old) self) × (name ≤ 8589934592) }
         ensures { (o : List ℕ) → leaves result (lent cells.new o) ≡ lock self name heads.now (lent cells.old o) }
     {
-        let found = lookup::newest(cells, heads, name);
-        if found == Run::NOWHERE {
+        let Some(found) = lookup::newest(cells, heads, name) else {
             return self.refuse_name(name, cells);
-        }
+        };
         let st = self.release(0, cells);
         layout::write_lock(cells, found);
         st

@@ -1,5 +1,5 @@
 // Walks over the cells. Each makes at most so many turns, and answers NOWHERE where what it looks for is not there.
-ghost use Rattle.std.specs.Prelude.{◌≡◌, ◌+◌, ◌-◌, ◌≤◌, ◌<◌, ◌⊎◌, length, MatchOption};
+ghost use Rattle.std.specs.Prelude.{◌≡◌, ◌+◌, ◌-◌, ◌≤◌, ◌<◌, ◌⊎◌, length, IfSome, MatchOption};
 ghost use Rattle.std.specs.Iterator.{at_most};
 ghost use Rattle.language.specs.Signs.{cells_limit};
 ghost use Rattle.machine.specs.Walks.{nowhere, argument, is_one, chosen, size, is_named, newest, definitions, is_read};
@@ -61,23 +61,24 @@ fn is_one(cells: &[u32], argument: usize) -> bool
 
 // The newest definition with the name at a length cell: the first that has it in its group.
 #[tactic(auto, using(crate::proofs::Turns::newest_turn, crate::proofs::Turns::newest_done))]
-pub(crate) fn newest(cells: &[u32], heads: &[u32; 64], name: usize) -> usize
+pub(crate) fn newest(cells: &[u32], heads: &[u32; 64], name: usize) -> Option<usize>
     requires { (length cells.now ≤ cells_limit) × (name ≤ 8589934592) }
-    ensures { result ≡ newest cells.now heads.now name }
+    ensures found { result ≡ newest cells.now heads.now name }
+    ensures inside { IfSome result (λ p. p < length cells.now) }
 {
     let count = memory::read(cells, name) as usize;
     let group = index::group(cells, name + 1, count);
     let mut position = layout::position(heads[group]);
     for _ in 0..cells.len() {
         if position >= cells.len() {
-            return Run::NOWHERE;
+            return None;
         }
         if is_named(cells, position, name, count) {
-            return position;
+            return Some(position);
         }
         position = layout::group_link(cells, position) as usize;
     }
-    Run::NOWHERE
+    None
 }
 
 // Whether the definition at a position has the name at a length cell.
