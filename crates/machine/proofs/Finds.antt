@@ -1,7 +1,7 @@
 -- The walks find what they look for in cells that hold what the frames say.
 use Prim.Native.Nat.{ℕ, zero, suc, ◌+◌, ◌-◌, ◌≤◌, ◌<◌}
 use native.Mathlib.Omega.{arith}
-use mathlib.Core.Path.{◌≡◌, refl, sym, ap, ◌∙◌}
+use mathlib.Core.Path.{◌≡◌, refl, sym, ap, subst, ◌∙◌}
 use mathlib.Core.Bool.{Bool, true, false, cond, ◌||◌}
 use mathlib.Core.List.{List, [], ◌∷◌, ◌++◌, append_assoc, append-nil}
 use Rattle.std.specs.Prelude.{Option, None, Some}
@@ -18,7 +18,7 @@ use Rattle.language.proofs.Groups.{group_below, other_group, group-length}
 use Rattle.language.specs.Scanning.{Body, reading}
 use Rattle.memory.specs.Block.{block, same, same_blocks}
 use Rattle.memory.proofs.Blocks.{ne_same, same_true, same_blocks_in}
-use Rattle.machine.specs.Walks.{head_size, arguments_from, list_overhead, is_locked, name_length, room, value_length, group_link, definition_group, right_before, list_link, return_link, nowhere, mark, packed, high, low, argument, size, newest_from, newest, definitions_from, definitions, is_read_from, is_read}
+use Rattle.machine.specs.Walks.{head_size, arguments_from, list_overhead, is_locked, name_length, room, value_length, group_link, definition_group, right_before, list_link, return_link, nowhere, mark, packed, high, low, behind, argument, size, newest_from, newest, definitions_from, definitions, is_read_from, is_read}
 use Rattle.machine.proofs.Items.{count-width, list_size, definition_size, width-append, width-cons}
 use Rattle.machine.specs.Items.{Head, Item, defined, listed, encode_arguments, encode_item, encode, width, macro_of, definition_of, definitions_of, count, Definitions}
 use Rattle.machine.specs.Frames.{Frame, made, collects, reads, address, At, here, there, list_item, laid, items, places, bodies, Valid}
@@ -74,29 +74,52 @@ first_of l p a args rest e =
       behind = drop_past l (length a ∷ a) more p (length a + 1) s (omega arith);
     }
 
+-- and it is found there
+pub record Supplied (l : List ℕ) (p : ℕ) (args : List Bytes) (k : ℕ) : Type 0 where
+  pub at : ℕ
+  pub found : argument l p k ≡ Some at
+  pub is : ArgumentAt l p args k at
+
 -- an argument is found
 pub argument_at : (l : List ℕ) (p : ℕ) (args : List Bytes) (rest : List ℕ) (k : ℕ)
-    → drop p l ≡ encode_arguments args ++ (mark ∷ rest) → arguments_price args ≤ 65536 → k < length args → ArgumentAt l p args k (argument l p k)
+    → drop p l ≡ encode_arguments args ++ (mark ∷ rest) → arguments_price args ≤ 65536 → k < length args → Supplied l p args k
 unfolding arguments_price argument
 argument_at l p [] rest k e small h = absurd (omega arith)
 argument_at l p (a ∷ args) rest zero e small h =
     let f = first_of l p a args (mark ∷ rest) e in
-    rw (lt-leb mark (get_or l p 0) (omega arith))
-    (record {
-      place = omega arith;
-      counted = f.counted;
-      bytes = block_of l a (encode_arguments args ++ (mark ∷ rest)) (p + 1) f.bytes;
-      within = omega arith;
-    })
+    record {
+      at = p;
+      found = rw (lt-leb mark (get_or l p 0) (omega arith));
+      is = record {
+        place = omega arith;
+        counted = f.counted;
+        bytes = block_of l a (encode_arguments args ++ (mark ∷ rest)) (p + 1) f.bytes;
+        within = omega arith;
+      };
+    }
 argument_at l p (a ∷ args) rest (suc k) e small h =
     let f = first_of l p a args (mark ∷ rest) e in
     let r = argument_at l (p + (length a + 1)) args rest k f.behind (omega arith) (omega arith) in
-    rw (lt-leb mark (get_or l p 0) (omega arith), f.counted)
-    (record { place = omega (arith, r.place); counted = r.counted; bytes = r.bytes; within = omega (arith, r.within) })
+    record {
+      at = r.at;
+      found = rw (lt-leb mark (get_or l p 0) (omega arith), f.counted) r.found;
+      is = record { place = omega (arith, r.is.place); counted = r.is.counted; bytes = r.is.bytes; within = omega (arith, r.is.within) };
+    }
+
+-- the first parameter stands behind the name
+pub argument_behind : (l : List ℕ) (p : ℕ) (args : List Bytes) (rest : List ℕ)
+    → drop p l ≡ encode_arguments args ++ (mark ∷ rest) → arguments_price args ≤ 65536 → 1 < length args → ArgumentAt l p args 1 (behind l p)
+unfolding arguments_price
+argument_behind l p [] rest e small h = absurd (omega arith)
+argument_behind l p (a ∷ args) rest e small h =
+    let f = first_of l p a args (mark ∷ rest) e in
+    let r = argument_at l p (a ∷ args) rest 1 e small h in
+    let same : r.at ≡ behind l p = omega (arith, r.is.place, f.counted) in
+    subst (ArgumentAt l p (a ∷ args) 1) same r.is
 
 -- behind the last argument there is none
 pub argument_past : (l : List ℕ) (p : ℕ) (args : List Bytes) (rest : List ℕ) (k : ℕ)
-    → drop p l ≡ encode_arguments args ++ (mark ∷ rest) → arguments_price args ≤ 65536 → length args ≤ k → argument l p k ≡ nowhere
+    → drop p l ≡ encode_arguments args ++ (mark ∷ rest) → arguments_price args ≤ 65536 → length args ≤ k → argument l p k ≡ None
 unfolding encode_arguments arguments_price argument
 argument_past l p [] rest zero e small h = rw (head_at l (mark ∷ rest) p e)
 argument_past l p [] rest (suc k) e small h = rw (head_at l (mark ∷ rest) p e)

@@ -7,11 +7,10 @@ use mathlib.Core.Bool.{Bool, true, false, cond, true≢false}
 use mathlib.Core.List.{List, [], ◌∷◌}
 use borrow.Author.Tests.{ltb-false, leb-false, ne_eqb}
 use lib.ListN.{length, get_or}
-use lib.Dec.{eqb, ltb, leb}
+use lib.Dec.{ltb, leb}
 use borrow.Enum.Refused.{Among, opened}
 use types.Run.{OneOf}
 use denote.Enum.Declared.{tag_of}
-use Rattle.decimal.specs.declared.operations.Operation.{Operation}
 use Rattle.std.specs.Prelude.{Option, None, Some, IfSome, Result, Ok, Err}
 use Rattle.decimal.specs.declared.operations.Refusal.{Refusal}
 use Rattle.language.specs.declared.built_ins.BuiltIn.{BuiltIn}
@@ -22,8 +21,8 @@ use Rattle.machine.specs.declared.run.Run.{Run}
 use Rattle.machine.specs.declared.run.Answer.{Answer}
 use Rattle.machine.specs.declared.run.Answer.TheVariants.{GoesOn, Ended, Damaged, Refused}
 use Rattle.machine.specs.declared.run.Stepped.{Stepped}
-use Rattle.machine.specs.Walks.{nowhere, name_group, group_link, is_named, newest_from, newest, argument, is_locked, room, right_before, list_link, return_link, high, list_overhead, definitions, is_read, chosen, built_in_named, compare, calculate}
-use Rattle.machine.specs.Machine.{After, Indexed, keeping, unindexed, Resulting, goes, ends, damaged, goes_on, placing, released, release_to, release, define_in, def, leaves, own_call, end_body_to, end_body, charged, wrote, is_outer, give, refuse_named, given, val_at, val, update_at, update, choose, lock_in, lock, give_answer, give_count, perform}
+use Rattle.machine.specs.Walks.{name_group, group_link, is_named, newest_from, newest, is_locked, room, right_before, list_link, return_link, high, list_overhead, definitions, is_read, chosen, built_in_named}
+use Rattle.machine.specs.Machine.{After, Indexed, keeping, unindexed, Resulting, goes, ends, damaged, goes_on, placing, released, release_to, release, define_in, def, leaves, own_call, end_body_to, end_body, charged, wrote, is_outer, give, refuse_named, given, val_at, val, update_at, update, choose, lock_in, lock, choose_at, give_answer, give_count, perform}
 use Rattle.machine.specs.contracts.run.Answer.{the_type}
 use Rattle.language.specs.declared.outcomes.Outcome.TheVariants.{EmptyName}
 
@@ -62,23 +61,6 @@ defines r name value h m n z v e u g d = d ∙ rw (u, ← n, v, ne_eqb _ _ z, �
 -- what is placed is placed where the run goes on
 pub placed_on : {a b : After} (m : Lent) → a ≡ b → a.answer ≡ GoesOn → record { run = a.run; answer = a.answer; lent = m } ≡ placing b m
 placed_on m e h = rw (← e, h)
-
--- an arithmetic built-in gives what it comes to on its arguments
-pub calculates : (r : Run) (name : ℕ) (h : List ℕ) (m : Lent) {b : BuiltIn} {op : Operation} {first second : ℕ} {x : Result (List ℕ) Refusal} → b ≡ Arithmetic op
-    → first ≡ argument m.cells name 1 → second ≡ argument m.cells name 2 → x ≡ calculate op m.cells first second
-    → unindexed r h (give_answer r x m) ≡ perform r b name h m
-calculates r name h m e f s c = rw (e, c, f, s)
-
--- SEQ gives what its arguments compare to
-pub compares : (r : Run) (name : ℕ) (h : List ℕ) (m : Lent) {b : BuiltIn} {first second x : ℕ} → b ≡ Seq
-    → first ≡ argument m.cells name 1 → second ≡ argument m.cells name 2 → x ≡ compare m.cells first second
-    → unindexed r h (give_count r x m) ≡ perform r b name h m
-compares r name h m e f s c = rw (e, c, f, s)
-
--- SIZE gives the length of its argument
-pub measures : (r : Run) (name : ℕ) (h : List ℕ) (m : Lent) {b : BuiltIn} {first x : ℕ} → b ≡ Size → first ≡ argument m.cells name 1
-    → x ≡ get_or m.cells first 0 → unindexed r h (give_count r x m) ≡ perform r b name h m
-measures r name h m e f c = rw (e, c, f)
 
 -- a built-in needs few parameters
 pub few : (b : BuiltIn) → needs b ≤ 2
@@ -212,23 +194,27 @@ module _ (r : Run) (m : Lent) (inside : r.right ≤ 65536) (size : length m.cell
   count_right count = (give-within _ _).right
 
   pub choose_right : (name : ℕ) → (choose r name m).run.right ≤ 65536
-  choose_right name = (either (eqb (chosen m.cells name) nowhere) (give-within _ _) (give-within _ _)).right
+  choose_right name = (go (chosen m.cells name)).right
+    where
+      go : (x : Option ℕ) → Within (choose_at r name x m)
+      go None = give-within _ _
+      go (Some second) = give-within _ _
 
   pub lock_right : (name : ℕ) (h : List ℕ) → (lock r name h m).run.right ≤ 65536
   lock_right name h = (given_within name (λ d. lock_in r d m) (newest m.cells h name) (λ d. record { right = release_right })).right
 
 -- what a built-in but DEF leaves: what is lent is as long as it was, and the index that goes with it is what the built-in leaves
-pub record Carried (r : Run) (b : BuiltIn) (name : ℕ) (h : List ℕ) (m : Lent) (st : Stepped) (l o : List ℕ) : Type 0 where
+pub record Carried (r : Run) (b : BuiltIn) (name last : ℕ) (h : List ℕ) (m : Lent) (st : Stepped) (l o : List ℕ) : Type 0 where
   pub long : length l ≡ length m.cells
   pub wide : length o ≡ length m.output
   pub right : st.run.right ≤ 65536
-  pub performs : unindexed r h (leaves st (lent l o)) ≡ perform r b name h m
+  pub performs : unindexed r h (leaves st (lent l o)) ≡ perform r b name last h m
 
 -- so it is where the arm of the built-in left that
-pub carries : {r : Run} {b : BuiltIn} {name : ℕ} {h : List ℕ} {m : Lent} {st st₁ : Stepped} {l l₁ o o₁ : List ℕ} {a : After} → l ≡ l₁ → o ≡ o₁ → st ≡ st₁
+pub carries : {r : Run} {b : BuiltIn} {name last : ℕ} {h : List ℕ} {m : Lent} {st st₁ : Stepped} {l l₁ o o₁ : List ℕ} {a : After} → l ≡ l₁ → o ≡ o₁ → st ≡ st₁
     → length l₁ ≡ length m.cells → length o₁ ≡ length m.output → leaves st₁ (lent l₁ o₁) ≡ a → a.run.right ≤ 65536
-    → unindexed r h a ≡ perform r b name h m → Carried r b name h m st l o
-carries {r} {b} {name} {h} e₁ e₂ e₃ long wide is right performs = record {
+    → unindexed r h a ≡ perform r b name last h m → Carried r b name last h m st l o
+carries {r} {b} {name} {last} {h} e₁ e₂ e₃ long wide is right performs = record {
   long = ap length e₁ ∙ long;
   wide = ap length e₂ ∙ wide;
   right = rw (e₃) (rw (← is) at right);
