@@ -19,14 +19,14 @@ use Rattle.language.specs.Scanning as S
 use Rattle.memory.specs.Block.{placed, block, moved}
 use Rattle.memory.proofs.Blocks.{moved_in}
 use Rattle.machine.specs.declared.run.Run.{Run}
-use Rattle.machine.specs.Walks.{head_size, with_head, cell, definition_group, removed, headed_at, packed, high, low, argument, arguments_from}
+use Rattle.machine.specs.Walks.{head_size, with_head, cell, definition_group, removed, headed_at, packed, high, low, arguments_from}
 use Rattle.machine.specs.Machine as M
 use Rattle.machine.proofs.Items.{encode-append, count-width, width-append, width-cons, count-append, definition_size}
 use Rattle.machine.proofs.Represents.{SimulatesIndexed, goes}
-use Rattle.machine.proofs.Finds.{ArgumentAt, argument_at, group_at}
+use Rattle.machine.proofs.Finds.{ArgumentAt, group_at}
 use Rattle.machine.proofs.Indexing.{headed_new}
 use Rattle.machine.proofs.Applying.{Applied, list_of}
-use Rattle.machine.proofs.Calling.{gone_index, arguments_at, release_is, right_to, to_above, under_cells, take_call, left_definitions, places_left}
+use Rattle.machine.proofs.Calling.{gone_index, release_is, right_to, to_above, under_cells, take_call, left_definitions, places_left}
 use Rattle.machine.specs.Items.{definition_of, Head, Item, defined, width, encode, definitions_of, count}
 use Rattle.machine.specs.Frames.{Places, made, address, laid, items, places, lefts, calls, bodies, Valid}
 use Rattle.machine.specs.Index.{Index}
@@ -119,12 +119,6 @@ module _ {n : ℕ} {older : List Definition} {heads whole start : List ℕ} {r :
   abbrev list : List Bytes
   list = list_of a
 
-  abbrev first : ℕ
-  first = argument l (r.calls.call + arguments_from) 1
-
-  abbrev second : ℕ
-  second = argument l (r.calls.call + arguments_from) 2
-
   abbrev name : Bytes
   name = parameter 1 list
 
@@ -158,18 +152,12 @@ module _ {n : ℕ} {older : List Definition} {heads whole start : List ℕ} {r :
   abbrev cells : List ℕ
   cells = take at l ++ tail
 
-  module _ (long : 2 < length list) (named : 0 < length name) where
+  -- the name and the value stand at these length cells
+  module _ {first second : ℕ} (name_at : ArgumentAt l (r.calls.call + arguments_from) list 1 first)
+      (value_at : ArgumentAt l (r.calls.call + arguments_from) list 2 second) (long : 2 < length list) (named : 0 < length name) where
     -- what stood at the `$` lies within the cells
     to_within : (to ≤ n) × (n ≤ 65536) × (length l ≡ n) × (to + width U ≡ n)
     to_within = let w = width-append a.since U in (omega arith, a.cells_lent, a.lies.stands.size, omega (arith, a.lies.stands.right))
-
-    -- where the name stands
-    name_at : ArgumentAt l (r.calls.call + arguments_from) list 1 first
-    name_at = argument_at l (r.calls.call + arguments_from) list (drop (r.calls.left + 1) l) 1 (arguments_at a) (omega (arith, to_above a, a.left_is, to_within)) (omega arith)
-
-    -- where the value stands
-    value_at : ArgumentAt l (r.calls.call + arguments_from) list 2 second
-    value_at = argument_at l (r.calls.call + arguments_from) list (drop (r.calls.left + 1) l) 2 (arguments_at a) (omega (arith, to_above a, a.left_is, to_within)) long
 
     -- the list is longer than the definition, and the name ends before the value
     fits : (first + 1 + length name ≤ second) × (second + 1 + length value ≤ r.calls.left) × (r.calls.call + 3 ≤ first) × (r.calls.left + 1 ≤ to)

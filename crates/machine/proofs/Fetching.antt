@@ -1,16 +1,15 @@
 -- A byte of a body, and `~` with its digit or letter.
-use Prim.Native.Nat.{ℕ, zero, suc, ◌+◌, ◌-◌, ◌%◌, ◌≤◌, ◌<◌}
+use Prim.Native.Nat.{ℕ, zero, suc, ◌+◌, ◌%◌, ◌≤◌, ◌<◌}
 use native.Mathlib.Omega.{arith}
 use mathlib.Core.Path.{◌≡◌, refl, sym, ap, ◌∙◌}
-use mathlib.Core.Bool.{Bool, true, false, cond, ◌&&◌}
+use mathlib.Core.Bool.{Bool, true, false}
 use mathlib.Core.List.{List, [], ◌∷◌, ◌++◌}
 use Rattle.std.specs.Prelude.{Option, None, Some}
 use lib.ListN.{length, take, drop, get_or, length-drop}
 use lib.Seq.{get_or-drop}
-use lib.Dec.{leb, ltb}
-use borrow.Author.Tests.{le-leb, lt-leb, ne_eqb, leb-true, ltb-true, ltb-false}
-use Rattle.decimal.specs.Operand.{is_digit}
-use Rattle.language.specs.Signs.{Bytes, Table, parameter_digit, parameter_number, language}
+use lib.Dec.{ltb}
+use borrow.Author.Tests.{le-leb, lt-leb, ltb-true, ltb-false}
+use Rattle.language.specs.Signs.{Bytes, Table, parameter_number, language}
 use Rattle.language.specs.Definitions.{Definition}
 use Rattle.language.specs.BuiltIns.{parameter}
 use Rattle.language.specs.Charge.{arguments_price, definitions_price}
@@ -23,7 +22,7 @@ use Rattle.language.specs.Octets.{Octets}
 use Rattle.memory.specs.Block.{block, low_bytes}
 use Rattle.memory.proofs.Blocks.{block_at, take-low_bytes, drop-low_bytes, low_bytes_of_bytes}
 use Rattle.machine.specs.declared.run.Run.{Run}
-use Rattle.machine.specs.Walks.{nowhere, mark, head_size, name_length, argument, arguments_from, value_length}
+use Rattle.machine.specs.Walks.{mark, head_size, name_length, arguments_from, value_length}
 use Rattle.machine.specs.Machine as M
 use Rattle.machine.proofs.Moves.{Reader, reader_of}
 use Rattle.machine.proofs.Represents.{Simulates}
@@ -61,7 +60,7 @@ module _ {n : ℕ} {older : List Definition} {heads whole start : List ℕ} {r :
     offset_eq : r.source.offset ≡ (places n (length older) h.frames).offset
     offset_eq = ap (λ (p : Places). p.offset) h.places_are
 
-    pub body_over : B.rest ≡ [] → M.body_byte r l ≡ nowhere
+    pub body_over : B.rest ≡ [] → M.body_byte r l ≡ None
     body_over q =
         let x = reader_is in
         let c = at_cells holds_of x.at in
@@ -70,7 +69,7 @@ module _ {n : ℕ} {older : List Definition} {heads whole start : List ℕ} {r :
         rw (le-leb (value_length l r.source.body) r.source.offset
         (omega (arith, offset_eq, valued, length-drop (places n (length older) h.frames).offset x.value)))
 
-    pub body_next : (x : ℕ) (rest : Bytes) → B.rest ≡ x ∷ rest → x < 256 → M.body_byte r l ≡ x
+    pub body_next : (x : ℕ) (rest : Bytes) → B.rest ≡ x ∷ rest → x < 256 → M.body_byte r l ≡ Some x
     body_next x rest q small =
         let v = reader_is in
         let c = at_cells holds_of v.at in
@@ -91,26 +90,7 @@ module _ {n : ℕ} {older : List Definition} {heads whole start : List ℕ} {r :
         ∙ sym (get_or-drop k v.value 0 0)
         ∙ ap (λ (j : List ℕ). get_or j 0 0) tail in
         let whole' : x % 256 ≡ x = omega arith in
-        rw (lt-leb (value_length l r.source.body) r.source.offset (omega (arith, offset_eq, valued)), byteIs) whole'
-
--- The parameter that a byte stands for: the code's number is the scanning's.
-pub data Numbered : ℕ → Option ℕ → Type 0 where
-  no : Numbered nowhere None
-  number : {k : ℕ} → k < 36 → Numbered k (Some k)
-
-pub numbered : (x : ℕ) → Numbered (M.parameter_number x) (parameter_number x)
-numbered x = letter (leb 97 x) (leb x 122) refl
-  where
-    digit : (a b : Bool) → leb x 57 ≡ b → Numbered (cond (a && b) (x - 48) nowhere) (cond (a && b) (Some (x - 48)) None)
-    digit true true e = let z = leb-true x 57 e in let w : x - 48 < 36 = omega arith in number w
-    digit true false e = no
-    digit false b e = no
-
-    letter : (a b : Bool) → leb x 122 ≡ b
-        → Numbered (cond (a && b) (x - 97 + 10) (cond (is_digit x) (x - 48) nowhere)) (cond (a && b) (Some (x - 97 + 10)) (parameter_digit x))
-    letter true true e = let z = leb-true x 122 e in let w : x - 97 + 10 < 36 = omega arith in number w
-    letter true false e = digit (leb 48 x) (leb x 57) refl
-    letter false b e = digit (leb 48 x) (leb x 57) refl
+        rw (lt-leb (value_length l r.source.body) r.source.offset (omega (arith, offset_eq, valued)), byteIs) (ap Some whole')
 
 module _ {n : ℕ} {older : List Definition} {heads whole start : List ℕ} {r : Run} {l o : List ℕ} {s : State}
     (free : definitions_price older ≡ 0) (h : Represents n older heads whole start r (lent l o) s) (B : Body) (Bs : List Body) (e : s.bodies ≡ B ∷ Bs) where
@@ -121,10 +101,10 @@ module _ {n : ℕ} {older : List Definition} {heads whole start : List ℕ} {r :
   list_eq = ap (λ (p : Places). p.list) h.places_are
 
   -- parameter k of the body being read
-  fetch_number_sim : (x : ℕ) (rest : Bytes) → B.rest ≡ x ∷ rest → All Octets B.list → (k : ℕ) → k < 36
-      → Simulates n older heads whole start (M.fetch_argument r (argument l (r.source.list + arguments_from) k) (lent l o))
+  fetch_number_sim : (x : ℕ) (rest : Bytes) → B.rest ≡ x ∷ rest → All Octets B.list → (k : ℕ)
+      → Simulates n older heads whole start (M.fetch_number r (Some k) (lent l o))
       (S.fetch_supplied (limits_of n (length start)) (ltb k (length B.list)) (parameter k B.list) (S.with_bodies (S.with_rest rest B ∷ Bs) s))
-  fetch_number_sim x rest q oct k small = go (ltb k (length B.list)) refl
+  fetch_number_sim x rest q oct k = go (ltb k (length B.list)) refl
     where
       more : List ℕ
       more = encode (listed.since ++ items n (length older) listed.under)
@@ -136,32 +116,30 @@ module _ {n : ℕ} {older : List Definition} {heads whole start : List ℕ} {r :
       priced = omega (arith, listed.within, h.cells_lent)
 
       go : (t : Bool) → ltb k (length B.list) ≡ t
-          → Simulates n older heads whole start (M.fetch_argument r (argument l (r.source.list + arguments_from) k) (lent l o))
+          → Simulates n older heads whole start (M.fetch_number r (Some k) (lent l o))
           (S.fetch_supplied (limits_of n (length start)) t (parameter k B.list) (S.with_bodies (S.with_rest rest B ∷ Bs) s))
       go true z =
-          let a = argument_at l (r.source.list + arguments_from) B.list more k c priced (ltb-true k (length B.list) z) in
-          let p = argument l (r.source.list + arguments_from) k in
+          let at = argument_at l (r.source.list + arguments_from) B.list more k c priced (ltb-true k (length B.list) z) in
+          let p = at.at in
+          let a = at.is in
           let bs = parameter k B.list in
-          let there : p < nowhere = omega (arith, a.within, listed.within, h.cells_lent, list_eq) in
           let h' = advanced h B Bs x rest e q in
-          rw (ne_eqb p nowhere (λ (y : p ≡ nowhere). absurd (omega arith)), a.counted)
+          rw (at.found, a.counted)
           (copy_block free h' (p + 1) bs (omega (arith, a.within, listed.within, list_eq)) a.bytes (block-low (p + 1) bs l a.bytes (each k B.list oct)))
       go false z =
-          let p : argument l (r.source.list + arguments_from) k ≡ nowhere = argument_past l (r.source.list + arguments_from) B.list more k c priced (ltb-false k (length B.list) z) in
-          rw p (refusal free h NotSupplied)
+          rw (argument_past l (r.source.list + arguments_from) B.list more k c priced (ltb-false k (length B.list) z)) (refusal free h NotSupplied)
 
   -- `~` in a body
   pub fetch_body_sim : (T : Table) → Octets B.rest → All Octets B.list
       → Simulates n older heads whole start (M.fetch_in_body r (lent l o)) (S.fetch_in_body (limits_of n (length start)) (language T) B.rest B Bs s)
   fetch_body_sim T octets oct = go B.rest refl octets
     where
-      by_number : (x : ℕ) (rest : Bytes) → B.rest ≡ x ∷ rest → (k : ℕ) (j : Option ℕ) → Numbered k j
-          → Simulates n older heads whole start (M.fetch_number r k (lent l o)) (S.fetch_number (limits_of n (length start)) j B.list (S.with_bodies (S.with_rest rest B ∷ Bs) s))
-      by_number x rest q k j no = refusal free h FetchesNothing
-      by_number x rest q k j (number m) = rw (ne_eqb k nowhere (λ (y : k ≡ nowhere). absurd (omega arith))) (fetch_number_sim x rest q oct k m)
+      by_number : (x : ℕ) (rest : Bytes) → B.rest ≡ x ∷ rest → (k : Option ℕ)
+          → Simulates n older heads whole start (M.fetch_number r k (lent l o)) (S.fetch_number (limits_of n (length start)) k B.list (S.with_bodies (S.with_rest rest B ∷ Bs) s))
+      by_number x rest q None = refusal free h FetchesNothing
+      by_number x rest q (Some k) = fetch_number_sim x rest q oct k
 
       go : (bs : Bytes) → B.rest ≡ bs → Octets bs → Simulates n older heads whole start (M.fetch_in_body r (lent l o)) (S.fetch_in_body (limits_of n (length start)) (language T) bs B Bs s)
       go [] q oc = rw (body_over h B Bs e q) (refusal free h FetchesNothing)
       go (x ∷ rest) q (with small oc) =
-          rw (body_next h B Bs e x rest q small, ne_eqb x nowhere (λ (y : x ≡ nowhere). absurd (omega arith)))
-          (by_number x rest q (M.parameter_number x) (parameter_number x) (numbered x))
+          rw (body_next h B Bs e x rest q small) (by_number x rest q (parameter_number x))

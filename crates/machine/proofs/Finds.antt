@@ -1,9 +1,10 @@
 -- The walks find what they look for in cells that hold what the frames say.
 use Prim.Native.Nat.{ℕ, zero, suc, ◌+◌, ◌-◌, ◌≤◌, ◌<◌}
 use native.Mathlib.Omega.{arith}
-use mathlib.Core.Path.{◌≡◌, refl, sym, ap, ◌∙◌}
+use mathlib.Core.Path.{◌≡◌, refl, sym, ap, subst, ◌∙◌}
 use mathlib.Core.Bool.{Bool, true, false, cond, ◌||◌}
 use mathlib.Core.List.{List, [], ◌∷◌, ◌++◌, append_assoc, append-nil}
+use Rattle.std.specs.Prelude.{Option, None, Some}
 use lib.ListN.{length, take, drop, get_or, length-append}
 use lib.Seq.{get_or-drop, drop-drop, take_at, drop_at}
 use lib.Dec.{eqb, leb, ltb}
@@ -17,7 +18,7 @@ use Rattle.language.proofs.Groups.{group_below, other_group, group-length}
 use Rattle.language.specs.Scanning.{Body, reading}
 use Rattle.memory.specs.Block.{block, same, same_blocks}
 use Rattle.memory.proofs.Blocks.{ne_same, same_true, same_blocks_in}
-use Rattle.machine.specs.Walks.{head_size, arguments_from, list_overhead, is_locked, name_length, room, value_length, group_link, definition_group, right_before, list_link, return_link, nowhere, mark, packed, high, low, argument, size, newest_from, newest, definitions_from, definitions, is_read_from, is_read}
+use Rattle.machine.specs.Walks.{head_size, arguments_from, list_overhead, is_locked, name_length, room, value_length, group_link, definition_group, right_before, list_link, return_link, nowhere, mark, packed, high, low, behind, argument, size, newest_from, newest, definitions_from, definitions, is_read_from, is_read}
 use Rattle.machine.proofs.Items.{count-width, list_size, definition_size, width-append, width-cons}
 use Rattle.machine.specs.Items.{Head, Item, defined, listed, encode_arguments, encode_item, encode, width, macro_of, definition_of, definitions_of, count, Definitions}
 use Rattle.machine.specs.Frames.{Frame, made, collects, reads, address, At, here, there, list_item, laid, items, places, bodies, Valid}
@@ -73,29 +74,52 @@ first_of l p a args rest e =
       behind = drop_past l (length a ∷ a) more p (length a + 1) s (omega arith);
     }
 
+-- and it is found there
+pub record Supplied (l : List ℕ) (p : ℕ) (args : List Bytes) (k : ℕ) : Type 0 where
+  pub at : ℕ
+  pub found : argument l p k ≡ Some at
+  pub is : ArgumentAt l p args k at
+
 -- an argument is found
 pub argument_at : (l : List ℕ) (p : ℕ) (args : List Bytes) (rest : List ℕ) (k : ℕ)
-    → drop p l ≡ encode_arguments args ++ (mark ∷ rest) → arguments_price args ≤ 65536 → k < length args → ArgumentAt l p args k (argument l p k)
+    → drop p l ≡ encode_arguments args ++ (mark ∷ rest) → arguments_price args ≤ 65536 → k < length args → Supplied l p args k
 unfolding arguments_price argument
 argument_at l p [] rest k e small h = absurd (omega arith)
 argument_at l p (a ∷ args) rest zero e small h =
     let f = first_of l p a args (mark ∷ rest) e in
-    rw (lt-leb mark (get_or l p 0) (omega arith))
-    (record {
-      place = omega arith;
-      counted = f.counted;
-      bytes = block_of l a (encode_arguments args ++ (mark ∷ rest)) (p + 1) f.bytes;
-      within = omega arith;
-    })
+    record {
+      at = p;
+      found = rw (lt-leb mark (get_or l p 0) (omega arith));
+      is = record {
+        place = omega arith;
+        counted = f.counted;
+        bytes = block_of l a (encode_arguments args ++ (mark ∷ rest)) (p + 1) f.bytes;
+        within = omega arith;
+      };
+    }
 argument_at l p (a ∷ args) rest (suc k) e small h =
     let f = first_of l p a args (mark ∷ rest) e in
     let r = argument_at l (p + (length a + 1)) args rest k f.behind (omega arith) (omega arith) in
-    rw (lt-leb mark (get_or l p 0) (omega arith), f.counted)
-    (record { place = omega (arith, r.place); counted = r.counted; bytes = r.bytes; within = omega (arith, r.within) })
+    record {
+      at = r.at;
+      found = rw (lt-leb mark (get_or l p 0) (omega arith), f.counted) r.found;
+      is = record { place = omega (arith, r.is.place); counted = r.is.counted; bytes = r.is.bytes; within = omega (arith, r.is.within) };
+    }
+
+-- the first parameter stands behind the name
+pub argument_behind : (l : List ℕ) (p : ℕ) (args : List Bytes) (rest : List ℕ)
+    → drop p l ≡ encode_arguments args ++ (mark ∷ rest) → arguments_price args ≤ 65536 → 1 < length args → ArgumentAt l p args 1 (behind l p)
+unfolding arguments_price
+argument_behind l p [] rest e small h = absurd (omega arith)
+argument_behind l p (a ∷ args) rest e small h =
+    let f = first_of l p a args (mark ∷ rest) e in
+    let r = argument_at l p (a ∷ args) rest 1 e small h in
+    let same : r.at ≡ behind l p = omega (arith, r.is.place, f.counted) in
+    subst (ArgumentAt l p (a ∷ args) 1) same r.is
 
 -- behind the last argument there is none
 pub argument_past : (l : List ℕ) (p : ℕ) (args : List Bytes) (rest : List ℕ) (k : ℕ)
-    → drop p l ≡ encode_arguments args ++ (mark ∷ rest) → arguments_price args ≤ 65536 → length args ≤ k → argument l p k ≡ nowhere
+    → drop p l ≡ encode_arguments args ++ (mark ∷ rest) → arguments_price args ≤ 65536 → length args ≤ k → argument l p k ≡ None
 unfolding encode_arguments arguments_price argument
 argument_past l p [] rest zero e small h = rw (head_at l (mark ∷ rest) p e)
 argument_past l p [] rest (suc k) e small h = rw (head_at l (mark ∷ rest) p e)
@@ -448,30 +472,30 @@ same_turned [] (y ∷ b) = refl
 same_turned (x ∷ a) [] = refl
 same_turned (x ∷ a) (y ∷ b) = rw (equal-turned x y, same_turned a b)
 
--- nothing has the name, or the definition at x is the newest that has it
-pub data Newest (n base : ℕ) (l : List ℕ) (right : ℕ) (its : List Item) (t : Bytes) (x : ℕ) : Type 0 where
-  absent : x ≡ nowhere → ((older : List Definition) → D.newest t (definitions_of its ++ older) ≡ D.newest t older) → Newest n base l right its t x
-  present : {k : ℕ} {c : Macro} → Defines n base l right its x k t c
+-- nothing has the name, or the definition at d is the newest that has it
+pub data Newest (n base : ℕ) (l : List ℕ) (right : ℕ) (its : List Item) (t : Bytes) : Option ℕ → Type 0 where
+  absent : ((older : List Definition) → D.newest t (definitions_of its ++ older) ≡ D.newest t older) → Newest n base l right its t None
+  present : {d k : ℕ} {c : Macro} → Defines n base l right its d k t c
       → ((older : List Definition) → length older ≡ base → D.newest t (definitions_of its ++ older) ≡ found k (macro c))
-      → Newest n base l right its t x
+      → Newest n base l right its t (Some d)
 
 -- older items have what they have behind a list
-newest_listed : {n base : ℕ} {l : List ℕ} {p q : ℕ} {its : List Item} {t : Bytes} {x to links reader : ℕ} {args : List Bytes} → p ≤ q
+newest_listed : {n base : ℕ} {l : List ℕ} {p q : ℕ} {its : List Item} {t : Bytes} {x : Option ℕ} {to links reader : ℕ} {args : List Bytes} → p ≤ q
     → Newest n base l q its t x → Newest n base l p (listed to links reader args ∷ its) t x
 unfolding definitions_of
-newest_listed h (absent e f) = absent e f
+newest_listed h (absent f) = absent f
 newest_listed h (present {c = m} c f) = present {c = m} (defines_there h c) f
 
 -- and behind a definition with another name
-newest_other : {n base : ℕ} {l : List ℕ} {p q : ℕ} {its : List Item} {t : Bytes} {x : ℕ} {f : Head} {name value spare : Bytes} → p ≤ q
+newest_other : {n base : ℕ} {l : List ℕ} {p q : ℕ} {its : List Item} {t : Bytes} {x : Option ℕ} {f : Head} {name value spare : Bytes} → p ≤ q
     → D.same t name ≡ false → Newest n base l q its t x → Newest n base l p (defined f name value spare ∷ its) t x
 unfolding definitions_of D.newest
-newest_other h s (absent e f) = absent e (λ older. rw s (f older))
+newest_other h s (absent f) = absent (λ older. rw s (f older))
 newest_other h s (present {c = m} c f) = present {c = m} (defines_there h c) (λ older b. rw s (f older b))
 
 -- a definition with the name is the newest
 newest_here : {n base : ℕ} {l : List ℕ} {p : ℕ} {its : List Item} {t : Bytes} {f : Head} {name value spare : Bytes} → D.same t name ≡ true
-    → HoldsItems n l p (defined f name value spare ∷ its) → Newest n base l p (defined f name value spare ∷ its) t p
+    → HoldsItems n l p (defined f name value spare ∷ its) → Newest n base l p (defined f name value spare ∷ its) t (Some p)
 unfolding definitions_of D.newest
 newest_here {base = base} {its = its} {t = t} {f = f} {name = name} {value = value} {spare = spare} s h =
     let q : name ≡ t = same_true name t (same_turned name t ∙ s) in
@@ -483,12 +507,12 @@ newest_here {base = base} {its = its} {t = t} {f = f} {name = name} {value = val
     rw (s, e))
 
 -- so a definition is the newest, or those behind it have what they have
-newest_pick : {n base : ℕ} {l : List ℕ} {p q : ℕ} {its : List Item} (t : Bytes) {x : ℕ} {f : Head} {name value spare : Bytes} → p ≤ q
+newest_pick : {n base : ℕ} {l : List ℕ} {p q : ℕ} {its : List Item} (t : Bytes) {x : Option ℕ} {f : Head} {name value spare : Bytes} → p ≤ q
     → HoldsItems n l p (defined f name value spare ∷ its) → Newest n base l q its t x
-    → Newest n base l p (defined f name value spare ∷ its) t (cond (D.same t name) p x)
+    → Newest n base l p (defined f name value spare ∷ its) t (cond (D.same t name) (Some p) x)
 newest_pick {n} {base} {l} {p} {its = its} t {x} {f} {name} {value} {spare} o h r = go (D.same t name) refl
   where
-    go : (b : Bool) → D.same t name ≡ b → Newest n base l p (defined f name value spare ∷ its) t (cond b p x)
+    go : (b : Bool) → D.same t name ≡ b → Newest n base l p (defined f name value spare ∷ its) t (cond b (Some p) x)
     go true e = newest_here e h
     go false e = newest_other o e r
 
@@ -515,8 +539,8 @@ module _ {n : ℕ} {l : List ℕ} (name : ℕ) (t : Bytes) (is : block (name + 1
       → length (of_group (group t) (definitions_of its)) ≤ turns
       → Newest n base l p its t (newest_from turns l (newest_in n (group t) its) name (length t))
   unfolding newest_from newest_in Linked encode definitions_of of_group
-  newest_in_lem zero [] h k w = absent refl (λ older. refl)
-  newest_in_lem (suc turns) [] h k w = rw (le-leb (length l) mark (omega (arith, h.size, h.cells_lent))) (absent refl (λ older. refl))
+  newest_in_lem zero [] h k w = absent (λ older. refl)
+  newest_in_lem (suc turns) [] h k w = rw (le-leb (length l) mark (omega (arith, h.size, h.cells_lent))) (absent (λ older. refl))
   newest_in_lem {base} turns {p} (listed to links reader args ∷ its) h k w =
       newest_listed (omega arith) (newest_in_lem turns its (holds_rest h) k w)
   newest_in_lem {base} turns {p} (defined f own value spare ∷ its) h k w =

@@ -4,9 +4,10 @@ use native.Mathlib.Omega.{arith}
 use mathlib.Core.Path.{◌≡◌, refl, sym, ap, ◌∙◌}
 use mathlib.Core.Bool.{Bool, true, false, cond}
 use mathlib.Core.List.{List, [], ◌∷◌, ◌++◌}
+use Rattle.std.specs.Prelude.{Option}
 use lib.ListN.{length, drop}
 use lib.Dec.{eqb}
-use borrow.Author.Tests.{le-leb, lt-leb, ne_eqb, eqb-true}
+use borrow.Author.Tests.{le-leb, lt-leb, eqb-true}
 use Rattle.language.specs.Signs.{Bytes, Table, language, cells_limit}
 use Rattle.language.specs.Definitions.{Definition, macro}
 use Rattle.language.specs.Definitions as D
@@ -17,7 +18,7 @@ use Rattle.language.specs.Octets.{Octets, HoldsOctets}
 use Rattle.language.specs.Scanning.{State, Step, next, stop, start, scans}
 use Rattle.language.specs.Expansion.{Lent, limits_of}
 use Rattle.machine.specs.declared.run.Run.{Run}
-use Rattle.machine.specs.Walks.{nowhere, mark, newest}
+use Rattle.machine.specs.Walks.{mark}
 use Rattle.machine.specs.Machine.{Indexed, fresh, goes, keeping, steps}
 use Rattle.machine.specs.Items.{Item, defined, listed, encode_item, encode, width, definitions_of, count, Definitions}
 use Rattle.machine.specs.Frames.{address, items}
@@ -79,7 +80,7 @@ index_held {n} {older} {heads} {r = r} {m = m} {s = s} h =
           let read : group_held_from (length l) l (newest_in n g its) ≡ of_group g (definitions_of its) = group_in (length l) g its holds h.lies.indexed.linked (omega (arith, h.lies.stands.right, h.lies.stands.size)) in
           rw (h.lies.indexed.headed g q, read, h.lies.stands.definitions) (sym (of_group-append g (definitions_of its) older));
       finds = λ name t c is fits.
-          by name t (newest_finds h.frames h.valid holds {heads = heads} name t h.lies.indexed c is (omega (arith, h.lies.stands.size)));
+          by t (newest_finds h.frames h.valid holds {heads = heads} name t h.lies.indexed c is (omega (arith, h.lies.stands.size)));
     }
   where
     l : List ℕ
@@ -91,11 +92,10 @@ index_held {n} {older} {heads} {r = r} {m = m} {s = s} h =
     holds : HoldsItems n l r.right its
     holds = record { size = h.lies.stands.size; cells_lent = h.cells_lent; ends = h.lies.stands.right; cells = h.lies.stands.cells }
 
-    by : (name : ℕ) (t : Bytes) → Newest n (length older) l r.right its t (newest l heads name)
-        → content_at l (newest l heads name) (content_of (D.newest t older)) ≡ content_of (D.newest t s.standing.definitions)
-    by name t (absent e f) = rw (e, h.lies.stands.definitions, f older)
-    by name t (present {k} {c} d f) =
-        rw (ne_eqb (newest l heads name) nowhere (λ (e : newest l heads name ≡ nowhere). absurd (omega (arith, d.below))), h.lies.stands.definitions, f older refl, definition_is d.cells)
+    by : (t : Bytes) {x : Option ℕ} → Newest n (length older) l r.right its t x
+        → content_at l x (content_of (D.newest t older)) ≡ content_of (D.newest t s.standing.definitions)
+    by t (absent f) = rw (h.lies.stands.definitions, f older)
+    by t (present d f) = rw (h.lies.stands.definitions, f older refl, definition_is d.cells)
 
 -- "after every DEF, UPDATE, LOCK, end of call": after any number of scans from any state that is held, whatever definitions stand in it
 pub index_kept : (T : Table) (text first : Bytes) (n : ℕ) {r : Run} {heads : List ℕ} {m : Lent} {s : State} → Represents n built_ins heads text first r m s → HoldsOctets s

@@ -7,14 +7,14 @@ use mathlib.Core.List.{List, [], ◌∷◌}
 use lib.ListN.{length, get_or, set, length-set}
 use lib.Dec.{eqb, leb, ltb}
 use borrow.Author.Rules.{rules}
-use borrow.Author.Tests.{ltb-false, leb-false, eqb-false}
+use borrow.Author.Tests.{ltb-false, leb-false}
 use Rattle.language.specs.declared.built_ins.BuiltIn.{BuiltIn}
 use Rattle.language.specs.declared.built_ins.BuiltIn.TheVariants.{Def, Val, Update, Arithmetic, Seq, Size, If, Lock}
-use Rattle.language.specs.Signs.{cells_limit, sign_of}
+use Rattle.language.specs.Signs.{cells_limit, parameter_number, sign_of}
 use Rattle.language.specs.BuiltIns as B
 use Rattle.language.specs.Charge.{open_price}
 use Rattle.language.specs.Expansion.{Lent}
-use Rattle.std.specs.Prelude.{Option, None, Some, Result, Ok, Err}
+use Rattle.std.specs.Prelude.{Option, None, Some, IfSome, option_and_then, Result, Ok, Err}
 use Rattle.decimal.specs.declared.operations.Refusal.{Refusal}
 use Rattle.decimal.specs.Shortest.{digits}
 use Rattle.language.specs.declared.outcomes.Outcome.{Outcome}
@@ -23,10 +23,10 @@ use Rattle.language.specs.declared.signs.Sign.TheVariants.{Plain, Dollar, Comma,
 use Rattle.machine.specs.declared.run.Run.{Run}
 use Rattle.machine.specs.declared.run.Answer.{Answer}
 use Rattle.machine.specs.declared.run.Answer.TheVariants.{GoesOn, Ended, Damaged, Refused}
-use Rattle.machine.specs.Walks.{nowhere, mark, cell, head_size, arguments_from, list_overhead, is_locked, value_length, room, right_before, list_link, return_link, high, argument, chosen, newest, definitions, is_read, built_in_named, compare, calculate}
+use Rattle.machine.specs.Walks.{nowhere, mark, cell, head_size, arguments_from, list_overhead, is_locked, value_length, room, right_before, list_link, return_link, high, behind, argument, chosen, newest, definitions, is_read, built_in_named, compare, calculate}
 use Rattle.machine.specs.Machine as M
 use Rattle.machine.specs.Machine.{After, Sound, Ready, InRange, Resulting, Marked}
-use Rattle.machine.proofs.Bodies.{inside}
+use Rattle.machine.proofs.Scans.{inside}
 use Rattle.machine.proofs.Leaves.{found_below}
 
 -- what goes on leaves the numbers in range and so many scans made, and no scan is refused
@@ -137,17 +137,20 @@ module _ (m : Lent) where
           (λ t. end_to_kept r s w (right_before l r.source.list) (list_link l r.source.list) (return_link l r.source.list) (definitions l (r.source.list + high (list_link l r.source.list) + list_overhead) (right_before l r.source.list))
           (small (r.source.list + 1)) (small (r.source.list + 2)) h)
 
-      fetch_argument_kept : (p : ℕ) → r.source.offset < 4294967296 → Kept n k r.counts.scans (M.fetch_argument r p m)
-      fetch_argument_kept p h =
-          choose (eqb p nowhere) (λ t. ends)
-          (λ t. copy_kept (M.with_offset (r.source.offset + 1) r) (search rules) w (p + 1) (get_or l p 0))
+      fetch_argument_kept : (p : Option ℕ) → r.source.offset < 4294967296 → Kept n k r.counts.scans (M.fetch_argument r p m)
+      fetch_argument_kept None h = ends
+      fetch_argument_kept (Some p) h = copy_kept (M.with_offset (r.source.offset + 1) r) (search rules) w (p + 1) (get_or l p 0)
+
+      fetch_number_kept : (j : Option ℕ) → r.source.offset < 4294967296 → Kept n k r.counts.scans (M.fetch_number r j m)
+      fetch_number_kept None h = ends
+      fetch_number_kept (Some j) h = fetch_argument_kept (argument l (r.source.list + arguments_from) j) h
 
       fetch_body_kept : Kept n k r.counts.scans (M.fetch_in_body r m)
-      fetch_body_kept =
-          choose (eqb (M.body_byte r l) nowhere) (λ t. ends)
-          (λ t. choose (eqb (M.parameter_number (M.body_byte r l)) nowhere) (λ t. ends)
-          (λ t₂. fetch_argument_kept (argument l (r.source.list + arguments_from) (M.parameter_number (M.body_byte r l)))
-          (let q = inside r l refl (eqb-false (M.body_byte r l) nowhere t) in omega (arith, small (r.source.body + 3)))))
+      fetch_body_kept = go (M.body_byte r l) refl
+        where
+          go : (x : Option ℕ) → x ≡ M.body_byte r l → Kept n k r.counts.scans (M.fetch_number r (option_and_then parameter_number x) m)
+          go None e = ends
+          go (Some b) e = fetch_number_kept (parameter_number b) (let q = inside r l e in omega (arith, small (r.source.body + 3)))
 
       fetch_kept : (b : ℕ) → Kept n k r.counts.scans (M.fetch r b m)
       fetch_kept b =
@@ -210,10 +213,12 @@ module _ (m : Lent) where
           go None = ends
           go (Some b) = ends
 
+      given_kept : (name : ℕ) (done : ℕ → After) (x : Option ℕ) → ((d : ℕ) → Kept n k r.counts.scans (done d)) → Kept n k r.counts.scans (M.given r name done x m)
+      given_kept name done None found = refuse_kept name
+      given_kept name done (Some d) found = found d
+
       val_kept : (name : ℕ) → Kept n k r.counts.scans (M.val r name h m)
-      val_kept name =
-          let d = newest l h name in
-          choose (eqb d nowhere) (λ t. refuse_kept name) (λ t. placing_kept _ _ (give_kept (value_length l d)))
+      val_kept name = given_kept name (λ d. M.val_at r d m) (newest l h name) (λ d. placing_kept _ _ (give_kept (value_length l d)))
 
       -- the call ends, whatever the cells then hold
       altered_kept : {m' : Lent} → Kept n k r.counts.scans (record { run = (M.release r 0 m).run; answer = (M.release r 0 m).answer; lent = m' })
@@ -221,14 +226,13 @@ module _ (m : Lent) where
 
       update_kept : (name value : ℕ) → Kept n k r.counts.scans (M.update r name value h m)
       update_kept name value =
-          let d = newest l h name in
-          choose (eqb d nowhere) (λ t. refuse_kept name)
-          (λ t. choose (is_locked l d) (λ t. ends)
+          given_kept name (λ d. M.update_at r value d m) (newest l h name) λ d.
+          choose (is_locked l d) (λ t. ends)
           (λ t. choose (is_read l r.source.list r.source.body d) (λ t. ends)
-          (λ t. choose (ltb (room l d) (get_or l value 0)) (λ t. ends) (λ t. altered_kept))))
+          (λ t. choose (ltb (room l d) (get_or l value 0)) (λ t. ends) (λ t. altered_kept)))
 
       lock_kept : (name : ℕ) → Kept n k r.counts.scans (M.lock r name h m)
-      lock_kept name = choose (eqb (newest l h name) nowhere) (λ t. refuse_kept name) (λ t. altered_kept)
+      lock_kept name = given_kept name (λ d. M.lock_in r d m) (newest l h name) (λ d. altered_kept)
 
       answer_kept : (x : Result (List ℕ) Refusal) → Kept n k r.counts.scans (M.give_answer r x m)
       answer_kept (Ok t) = placing_kept _ _ (give_kept (length t))
@@ -238,9 +242,11 @@ module _ (m : Lent) where
       count_kept count = placing_kept _ _ (give_kept (length (digits count)))
 
       choose_kept : (name : ℕ) → Kept n k r.counts.scans (M.choose r name m)
-      choose_kept name =
-          let second = chosen l name in
-          choose (eqb second nowhere) (λ t. placing_kept _ _ (give_kept 0)) (λ t. placing_kept _ _ (give_kept (get_or l second 0)))
+      choose_kept name = go (chosen l name)
+        where
+          go : (x : Option ℕ) → Kept n k r.counts.scans (M.choose_at r name x m)
+          go None = placing_kept _ _ (give_kept 0)
+          go (Some second) = placing_kept _ _ (give_kept (get_or l second 0))
 
       def_kept : (name value : ℕ) → KeptIn n k r.counts.scans (M.def r name value h m)
       def_kept name value =
@@ -248,22 +254,26 @@ module _ (m : Lent) where
           (λ t. onward_kept (M.unindexed r h (M.release r 0 m)) (λ r₁ h₁. M.define_in r₁ name value (get_or l name 0) (get_or l value 0) h₁ m) (release_kept r 0 s w)
           (λ f c. define_kept (M.release r 0 m).run name value (get_or l name 0) (get_or l value 0) (M.unindexed r h (M.release r 0 m)).heads f c))
 
-      perform_kept : (b : BuiltIn) (name : ℕ) → KeptIn n k r.counts.scans (M.perform r b name h m)
-      perform_kept Def name = def_kept (argument l name 1) (argument l name 2)
-      perform_kept Val name = record { is = val_kept (argument l name 1) }
-      perform_kept Update name = record { is = update_kept (argument l name 1) (argument l name 2) }
-      perform_kept (Arithmetic op) name = record { is = answer_kept (calculate op l (argument l name 1) (argument l name 2)) }
-      perform_kept Seq name = record { is = count_kept (compare l (argument l name 1) (argument l name 2)) }
-      perform_kept Size name = record { is = count_kept (get_or l (argument l name 1) 0) }
-      perform_kept If name = record { is = choose_kept name }
-      perform_kept Lock name = record { is = lock_kept (argument l name 1) }
+      perform_kept : (b : BuiltIn) (name last : ℕ) → KeptIn n k r.counts.scans (M.perform r b name last h m)
+      perform_kept Def name last = def_kept (behind l name) last
+      perform_kept Val name last = record { is = val_kept last }
+      perform_kept Update name last = record { is = update_kept (behind l name) last }
+      perform_kept (Arithmetic op) name last = record { is = answer_kept (calculate op l (behind l name) last) }
+      perform_kept Seq name last = record { is = count_kept (compare l (behind l name) last) }
+      perform_kept Size name last = record { is = count_kept (get_or l last 0) }
+      perform_kept If name last = record { is = choose_kept name }
+      perform_kept Lock name last = record { is = lock_kept last }
+
+      supplied_kept : (b : BuiltIn) (name : ℕ) (x : Option ℕ) → KeptIn n k r.counts.scans (M.supplied_to r b name x h m)
+      supplied_kept b name None = ends_in
+      supplied_kept b name (Some last) = perform_kept b name last
 
       built_in_kept : (name : ℕ) → KeptIn n k r.counts.scans (M.apply_built_in r name h m)
       built_in_kept name = go (built_in_named l name)
         where
           go : (x : Option BuiltIn) → KeptIn n k r.counts.scans (M.apply_named r x name h m)
           go None = ends_in
-          go (Some b) = choose_in (eqb (argument l name (B.needs b)) nowhere) (λ t. ends_in) (λ t. perform_kept b name)
+          go (Some b) = supplied_kept b name (argument l name (B.needs b))
 
       -- the body of a definition that was found
       read_kept : (d : ℕ) → d ≤ 65535 → Kept n k r.counts.scans (M.read_body r d m)
@@ -272,9 +282,14 @@ module _ (m : Lent) where
           goes (search rules) w refl
 
       marked_kept : KeptIn n k r.counts.scans (M.apply_marked r h m)
-      marked_kept =
-          let d = newest l h (r.calls.call + arguments_from) in
-          choose_in (eqb d nowhere) (λ t. built_in_kept (r.calls.call + arguments_from)) (λ t. record { is = read_kept d (found_below l h (r.calls.call + arguments_from) refl s.cells_lent) })
+      marked_kept = go (newest l h name) (found_below l h name)
+        where
+          name : ℕ
+          name = r.calls.call + arguments_from
+
+          go : (x : Option ℕ) → IfSome x (λ d. d < n) → KeptIn n k r.counts.scans (M.apply_found r x h m)
+          go None below = built_in_kept name
+          go (Some d) below = record { is = read_kept d (omega (arith, s.cells_lent)) }
 
 -- One scan -----------------------------------------------------------------------------------------------------------
 
@@ -373,12 +388,15 @@ module _ (m : Lent) (h : List ℕ) (small : (i : ℕ) → get_or m.cells i 0 < 4
       (λ t.
       let b = get_or text r.counts.read 0 in
       byte_kept (M.with_read (r.counts.read + 1) r₁) (search rules) w (sign_of kinds b) b))
-      (λ t. choose_in (eqb (M.body_byte r₁ m.cells) nowhere) (λ t. end_body_kept m small r₁ (search rules) w h)
-      (λ t.
-      let q = inside r₁ m.cells refl (eqb-false (M.body_byte r₁ m.cells) nowhere t) in
-      let q₂ = small (r.source.body + 3) in
-      let b = M.body_byte r₁ m.cells in
-      byte_kept (M.with_offset (r.source.offset + 1) r₁) (search rules) w (sign_of kinds b) b))
+      (λ t. body_kept (M.body_byte r₁ m.cells) refl)
+    where
+      body_kept : (x : Option ℕ) → x ≡ M.body_byte (M.scanned r) m.cells → KeptIn cells room' (r.counts.scans + 1) (M.scan_body_at (M.scanned r) kinds x h m)
+      body_kept None e = let s = f.ready in end_body_kept m small (M.scanned r) (search rules) f.written h
+      body_kept (Some b) e =
+          let s = f.ready in
+          let q = inside (M.scanned r) m.cells e in
+          let q₂ = small (r.source.body + 3) in
+          byte_kept (M.with_offset (r.source.offset + 1) (M.scanned r)) (search rules) f.written (sign_of kinds b) b
 
   pub step_kept : (r : Run) (kinds text : List ℕ) → InRange cells room' r → Kept cells room' (r.counts.scans + 1) (M.step r kinds text h m).after
   step_kept r kinds text f = (step_kept_in r kinds text f).is

@@ -5,14 +5,13 @@ use mathlib.Core.Path.{◌≡◌, refl, sym, ap, ◌∙◌}
 use mathlib.Core.Logic.{inl, inr}
 use mathlib.Core.Bool.{Bool, true, false, cond, true≢false}
 use mathlib.Core.List.{List, [], ◌∷◌}
-use borrow.Author.Tests.{ltb-false, leb-false, eq-eqb, ne_eqb}
+use borrow.Author.Tests.{ltb-false, leb-false, ne_eqb}
 use lib.ListN.{length, get_or}
-use lib.Dec.{eqb, ltb, leb}
+use lib.Dec.{ltb, leb}
 use borrow.Enum.Refused.{Among, opened}
 use types.Run.{OneOf}
 use denote.Enum.Declared.{tag_of}
-use Rattle.decimal.specs.declared.operations.Operation.{Operation}
-use Rattle.std.specs.Prelude.{Option, None, Some, Result, Ok, Err}
+use Rattle.std.specs.Prelude.{Option, None, Some, IfSome, Result, Ok, Err}
 use Rattle.decimal.specs.declared.operations.Refusal.{Refusal}
 use Rattle.language.specs.declared.built_ins.BuiltIn.{BuiltIn}
 use Rattle.language.specs.declared.built_ins.BuiltIn.TheVariants.{Def, Val, Update, Arithmetic, Seq, Size, If, Lock}
@@ -22,8 +21,8 @@ use Rattle.machine.specs.declared.run.Run.{Run}
 use Rattle.machine.specs.declared.run.Answer.{Answer}
 use Rattle.machine.specs.declared.run.Answer.TheVariants.{GoesOn, Ended, Damaged, Refused}
 use Rattle.machine.specs.declared.run.Stepped.{Stepped}
-use Rattle.machine.specs.Walks.{nowhere, head_size, name_length, value_length, name_group, group_link, is_named, newest_from, newest, argument, is_locked, room, right_before, list_link, return_link, high, list_overhead, definitions, is_read, chosen, built_in_named, compare, calculate}
-use Rattle.machine.specs.Machine.{After, Indexed, keeping, unindexed, Resulting, goes, ends, damaged, goes_on, placing, released, release_to, release, define_in, def, leaves, own_call, end_body_to, end_body, charged, wrote, is_outer, give, give_block, refuse_named, refuse_name, val, update, choose, lock, give_answer, give_count, perform}
+use Rattle.machine.specs.Walks.{name_group, group_link, is_named, newest_from, newest, is_locked, room, right_before, list_link, return_link, high, list_overhead, definitions, is_read, chosen, built_in_named}
+use Rattle.machine.specs.Machine.{After, Indexed, keeping, unindexed, Resulting, goes, ends, damaged, goes_on, placing, released, release_to, release, define_in, def, leaves, own_call, end_body_to, end_body, charged, wrote, is_outer, give, refuse_named, given, val_at, val, update_at, update, choose, lock_in, lock, choose_at, give_answer, give_count, perform}
 use Rattle.machine.specs.contracts.run.Answer.{the_type}
 use Rattle.language.specs.declared.outcomes.Outcome.TheVariants.{EmptyName}
 
@@ -63,33 +62,6 @@ defines r name value h m n z v e u g d = d ∙ rw (u, ← n, v, ne_eqb _ _ z, �
 pub placed_on : {a b : After} (m : Lent) → a ≡ b → a.answer ≡ GoesOn → record { run = a.run; answer = a.answer; lent = m } ≡ placing b m
 placed_on m e h = rw (← e, h)
 
--- VAL gives the value of the definition that it found
-pub valued : (r : Run) (name : ℕ) (h : List ℕ) (m : Lent) {a : After} {d letters count : ℕ} → d ≡ newest m.cells h name → (d ≡ nowhere → ⊥)
-    → letters ≡ name_length m.cells d → count ≡ value_length m.cells d → a ≡ give_block r (d + head_size + letters) count m → a ≡ val r name h m
-valued r name h m e z n v g = g ∙ rw (n, v, ← e, ne_eqb _ _ z)
-
--- and refuses the name where it found none
-pub not_valued : (r : Run) (name : ℕ) (h : List ℕ) (m : Lent) {a : After} {d : ℕ} → d ≡ newest m.cells h name → d ≡ nowhere
-    → a ≡ refuse_name r name m → a ≡ val r name h m
-not_valued r name h m e z n = n ∙ rw (← e, eq-eqb _ _ z)
-
--- an arithmetic built-in gives what it comes to on its arguments
-pub calculates : (r : Run) (name : ℕ) (h : List ℕ) (m : Lent) {b : BuiltIn} {op : Operation} {first second : ℕ} {x : Result (List ℕ) Refusal} → b ≡ Arithmetic op
-    → first ≡ argument m.cells name 1 → second ≡ argument m.cells name 2 → x ≡ calculate op m.cells first second
-    → unindexed r h (give_answer r x m) ≡ perform r b name h m
-calculates r name h m e f s c = rw (e, c, f, s)
-
--- SEQ gives what its arguments compare to
-pub compares : (r : Run) (name : ℕ) (h : List ℕ) (m : Lent) {b : BuiltIn} {first second x : ℕ} → b ≡ Seq
-    → first ≡ argument m.cells name 1 → second ≡ argument m.cells name 2 → x ≡ compare m.cells first second
-    → unindexed r h (give_count r x m) ≡ perform r b name h m
-compares r name h m e f s c = rw (e, c, f, s)
-
--- SIZE gives the length of its argument
-pub measures : (r : Run) (name : ℕ) (h : List ℕ) (m : Lent) {b : BuiltIn} {first x : ℕ} → b ≡ Size → first ≡ argument m.cells name 1
-    → x ≡ get_or m.cells first 0 → unindexed r h (give_count r x m) ≡ perform r b name h m
-measures r name h m e f c = rw (e, c, f)
-
 -- a built-in needs few parameters
 pub few : (b : BuiltIn) → needs b ≤ 2
 few Def = omega arith
@@ -124,20 +96,20 @@ roomy r kept to links gone m {a} s =
     go false false t true e h = absurd (refused e h)
     go false false t false e h = let i : to ≤ length m.cells = ltb-false _ _ t in rw e (omega arith)
 
--- a walk finds a definition within the cells, or nowhere
-walk_below : (t : ℕ) (l : List ℕ) (p name count : ℕ) → length l ≤ 65536 → newest_from t l p name count ≤ 65535
+-- a walk finds a definition within the cells, if any
+walk_below : (t : ℕ) (l : List ℕ) (p name count : ℕ) → IfSome (newest_from t l p name count) (λ d. d < length l)
 unfolding newest_from
-walk_below zero l p name count h = omega arith
-walk_below (suc t) l p name count h = go (leb (length l) p) refl (is_named l p name count) (walk_below t l (group_link l p) name count h)
+walk_below zero l p name count = tt
+walk_below (suc t) l p name count = go (leb (length l) p) refl (is_named l p name count) (newest_from t l (group_link l p) name count) (walk_below t l (group_link l p) name count)
   where
-    go : (b₁ : Bool) → leb (length l) p ≡ b₁ → (b₂ : Bool) {r : ℕ} → r ≤ 65535 → cond b₁ nowhere (cond b₂ p r) ≤ 65535
-    go true e b₂ k = omega arith
-    go false e true k = let i : p < length l = leb-false _ _ e in omega arith
-    go false e false k = k
+    go : (b₁ : Bool) → leb (length l) p ≡ b₁ → (b₂ : Bool) (r : Option ℕ) → IfSome r (λ d. d < length l)
+        → IfSome (cond b₁ None (cond b₂ (Some p) r)) (λ d. d < length l)
+    go true e b₂ r k = tt
+    go false e true r k = leb-false _ _ e
+    go false e false r k = k
 
--- so what it finds is small
-pub found_below : (l h : List ℕ) (name : ℕ) {d : ℕ} → d ≡ newest l h name → length l ≤ 65536 → d ≤ 65535
-found_below l h name e z = rw e (walk_below (length l) l (get_or h (name_group l name) 0) name (get_or l name 0) z)
+pub found_below : (l h : List ℕ) (name : ℕ) → IfSome (newest l h name) (λ d. d < length l)
+found_below l h name = walk_below (length l) l (get_or h (name_group l name) 0) name (get_or l name 0)
 
 -- the end of a body hands on what the cells of its list say
 pub hands_on : (r : Run) (h : List ℕ) (m : Lent) {x : Indexed} {own : Bool} {to links reader size gone : ℕ} → own ≡ own_call r m.cells → own ≡ false
@@ -195,20 +167,24 @@ module _ (r : Run) (m : Lent) (inside : r.right ≤ 65536) (size : length m.cell
   refuse_within None = record { right = inside }
   refuse_within (Some b) = record { right = inside }
 
+  -- or that was found
+  given_within : (name : ℕ) (done : ℕ → After) (x : Option ℕ) → ((d : ℕ) → Within (done d)) → Within (given r name done x m)
+  given_within name done None h = refuse_within (built_in_named m.cells name)
+  given_within name done (Some d) h = h d
+
   -- and the built-ins
   pub release_right : (release r 0 m).run.right ≤ 65536
   release_right = (release-within r 0 refl).right
 
   pub val_right : (name : ℕ) (h : List ℕ) → (val r name h m).run.right ≤ 65536
-  val_right name h = (either (eqb (newest m.cells h name) nowhere) (refuse_within (built_in_named m.cells name)) (give-within _ _)).right
+  val_right name h = (given_within name (λ d. val_at r d m) (newest m.cells h name) (λ d. give-within _ _)).right
 
   pub update_right : (name value : ℕ) (h : List ℕ) → (update r name value h m).run.right ≤ 65536
   update_right name value h =
-      let d = newest m.cells h name in
-      (either (eqb d nowhere) (refuse_within (built_in_named m.cells name))
-      (either (is_locked m.cells d) (record { right = inside })
+      (given_within name (λ d. update_at r value d m) (newest m.cells h name) λ d.
+      either (is_locked m.cells d) (record { right = inside })
       (either (is_read m.cells r.source.list r.source.body d) (record { right = inside })
-      (either (ltb (room m.cells d) (get_or m.cells value 0)) (record { right = inside }) (record { right = release_right }))))).right
+      (either (ltb (room m.cells d) (get_or m.cells value 0)) (record { right = inside }) (record { right = release_right })))).right
 
   pub answer_right : (x : Result (List ℕ) Refusal) → (give_answer r x m).run.right ≤ 65536
   answer_right (Ok t) = (give-within _ _).right
@@ -218,23 +194,27 @@ module _ (r : Run) (m : Lent) (inside : r.right ≤ 65536) (size : length m.cell
   count_right count = (give-within _ _).right
 
   pub choose_right : (name : ℕ) → (choose r name m).run.right ≤ 65536
-  choose_right name = (either (eqb (chosen m.cells name) nowhere) (give-within _ _) (give-within _ _)).right
+  choose_right name = (go (chosen m.cells name)).right
+    where
+      go : (x : Option ℕ) → Within (choose_at r name x m)
+      go None = give-within _ _
+      go (Some second) = give-within _ _
 
   pub lock_right : (name : ℕ) (h : List ℕ) → (lock r name h m).run.right ≤ 65536
-  lock_right name h = (either (eqb (newest m.cells h name) nowhere) (refuse_within (built_in_named m.cells name)) (record { right = release_right })).right
+  lock_right name h = (given_within name (λ d. lock_in r d m) (newest m.cells h name) (λ d. record { right = release_right })).right
 
 -- what a built-in but DEF leaves: what is lent is as long as it was, and the index that goes with it is what the built-in leaves
-pub record Carried (r : Run) (b : BuiltIn) (name : ℕ) (h : List ℕ) (m : Lent) (st : Stepped) (l o : List ℕ) : Type 0 where
+pub record Carried (r : Run) (b : BuiltIn) (name last : ℕ) (h : List ℕ) (m : Lent) (st : Stepped) (l o : List ℕ) : Type 0 where
   pub long : length l ≡ length m.cells
   pub wide : length o ≡ length m.output
   pub right : st.run.right ≤ 65536
-  pub performs : unindexed r h (leaves st (lent l o)) ≡ perform r b name h m
+  pub performs : unindexed r h (leaves st (lent l o)) ≡ perform r b name last h m
 
 -- so it is where the arm of the built-in left that
-pub carries : {r : Run} {b : BuiltIn} {name : ℕ} {h : List ℕ} {m : Lent} {st st₁ : Stepped} {l l₁ o o₁ : List ℕ} {a : After} → l ≡ l₁ → o ≡ o₁ → st ≡ st₁
+pub carries : {r : Run} {b : BuiltIn} {name last : ℕ} {h : List ℕ} {m : Lent} {st st₁ : Stepped} {l l₁ o o₁ : List ℕ} {a : After} → l ≡ l₁ → o ≡ o₁ → st ≡ st₁
     → length l₁ ≡ length m.cells → length o₁ ≡ length m.output → leaves st₁ (lent l₁ o₁) ≡ a → a.run.right ≤ 65536
-    → unindexed r h a ≡ perform r b name h m → Carried r b name h m st l o
-carries {r} {b} {name} {h} e₁ e₂ e₃ long wide is right performs = record {
+    → unindexed r h a ≡ perform r b name last h m → Carried r b name last h m st l o
+carries {r} {b} {name} {last} {h} e₁ e₂ e₃ long wide is right performs = record {
   long = ap length e₁ ∙ long;
   wide = ap length e₂ ∙ wide;
   right = rw (e₃) (rw (← is) at right);

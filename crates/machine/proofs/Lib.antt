@@ -1,6 +1,5 @@
 pub mod Lists
 pub mod Turns
-pub mod Bodies
 pub mod Scans
 pub mod Leaves
 pub mod Items

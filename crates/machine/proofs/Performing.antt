@@ -6,13 +6,13 @@ use mathlib.Core.Bool.{Bool, true, false, cond, true≢false}
 use mathlib.Core.List.{List, [], ◌∷◌, ◌++◌, append-nil}
 use lib.ListN.{length, drop, get_or, length-append}
 use lib.Seq.{drop-drop, drop_at}
-use lib.Dec.{eqb, ltb}
-use borrow.Author.Tests.{ne_eqb, ltb-true, ltb-false}
+use lib.Dec.{ltb}
+use borrow.Author.Tests.{ltb-true, ltb-false}
 use Rattle.decimal.specs.declared.operations.Operation.{Operation}
 use Rattle.decimal.specs.Arithmetic.{calculated}
 use Rattle.decimal.specs.Shortest.{digits_of, digits, shortest}
 use Rattle.std.proofs.Math.Seq.{take-length}
-use Rattle.std.specs.Prelude.{ℤ, Result, Ok, Err}
+use Rattle.std.specs.Prelude.{ℤ, Option, None, Result, Ok, Err}
 use Rattle.decimal.specs.declared.operations.Refusal.{Refusal}
 use Rattle.decimal.specs.declared.operations.Refusal.TheVariants as Arithmetical
 use Rattle.decimal.specs.Answers.{answer_of}
@@ -35,12 +35,12 @@ use Rattle.language.proofs.Demand.{built_ins_free}
 use Rattle.memory.specs.Block.{block, placed, moved, copied, low_bytes}
 use Rattle.memory.proofs.Blocks.{moved_in, copied_in, length-low_bytes}
 use Rattle.machine.specs.declared.run.Run.{Run}
-use Rattle.machine.specs.Walks.{nowhere, head_size, name_length, value_length, argument, chosen, newest, is_read, compare, calculate, with_lock, room, with_value_length}
+use Rattle.machine.specs.Walks.{head_size, name_length, behind, argument, chosen, newest, is_read, compare, calculate, with_lock, room, with_value_length}
 use Rattle.machine.specs.Machine as M
 use Rattle.machine.proofs.Items.{encode-append, width-append}
 use Rattle.machine.proofs.Moves.{made_all, made_laid, made_bodies, made_valid}
 use Rattle.machine.proofs.Represents.{Simulates, SimulatesIndexed, goes, output_size}
-use Rattle.machine.proofs.Finds.{HoldsItems, Defines, DefinitionAt, definition_at_lem, ArgumentAt, argument_at, argument_past, Newest, absent, present, newest_finds, is_read_finds}
+use Rattle.machine.proofs.Finds.{HoldsItems, Defines, DefinitionAt, definition_at_lem, ArgumentAt, Supplied, argument_at, argument_behind, argument_past, Newest, absent, present, newest_finds, is_read_finds}
 use Rattle.machine.proofs.Fetching.{block-low, each}
 use Rattle.machine.proofs.Altering.{alter, alter_items, alter_definitions_lem, alter_index, alter_append, alter_width, alter_count, alter_laid, alter_lefts, alter_calls, alter_bodies, KeepsRead, alter_valid, Spot, spot_of, stored, Fits, alter_definitions, Alters, update_alters, lock_alters, alter_size, alter_high, alter_low}
 use Rattle.machine.proofs.Naming.{TextAt, argument_text, named_of, Own, unknown, known, built_ins_only, built_in_named_is, calculate_is}
@@ -132,20 +132,17 @@ module _ {n : ℕ} {heads whole start : List ℕ} {r : Run} {l o : List ℕ} {s 
   priced = omega (arith, a.left_is, a.room, a.lies.stands.right, a.cells_lent)
 
   -- argument k of the call, in the cells
-  argument_is : (k : ℕ) → k < length list → ArgumentAt l name list k (argument l name k)
+  argument_is : (k : ℕ) → k < length list → Supplied l name list k
   argument_is k h = argument_at l name list (drop (r.calls.left + 1) l) k (arguments_at a) priced h
 
-  argument_not : (k : ℕ) → length list ≤ k → argument l name k ≡ nowhere
+  argument_not : (k : ℕ) → length list ≤ k → argument l name k ≡ None
   argument_not k h = argument_past l name list (drop (r.calls.left + 1) l) k (arguments_at a) priced h
 
-  text_is : (k : ℕ) → k < length list → TextAt l (argument l name k) (parameter k list)
-  text_is k h = argument_text (argument_is k h) (omega (arith, a.left_is, a.room, a.lies.stands.right, a.lies.stands.size))
+  first_is : 1 < length list → ArgumentAt l name list 1 (behind l name)
+  first_is h = argument_behind l name list (drop (r.calls.left + 1) l) (arguments_at a) priced h
 
-  there : (k : ℕ) → k < length list → eqb (argument l name k) nowhere ≡ false
-  there k h =
-      let x = argument_is k h in
-      let z : argument l name k < nowhere = omega (arith, x.within, a.left_is, a.room, a.lies.stands.right, a.cells_lent) in
-      ne_eqb (argument l name k) nowhere (λ (e : argument l name k ≡ nowhere). absurd (omega arith))
+  text_is : {k q : ℕ} → ArgumentAt l name list k q → TextAt l q (parameter k list)
+  text_is x = argument_text x (omega (arith, a.left_is, a.room, a.lies.stands.right, a.lies.stands.size))
 
   named : 0 < length list
   named = omega (arith, length-append a.ended (a.hand ∷ []))
@@ -154,8 +151,8 @@ module _ {n : ℕ} {heads whole start : List ℕ} {r : Run} {l o : List ℕ} {s 
   unfolding arguments_price
   name_text =
       let x = argument_is 0 named in
-      let e : argument l name 0 ≡ name = x.place ∙ omega arith in
-      subst (λ (k : ℕ). TextAt l k (parameter 0 list)) e (text_is 0 named)
+      let e : x.at ≡ name = x.is.place ∙ omega arith in
+      subst (λ (k : ℕ). TextAt l k (parameter 0 list)) e (text_is x.is)
 
   -- A name looked up -------------------------------------------------------------------------------------------------
 
@@ -200,18 +197,18 @@ module _ {n : ℕ} {heads whole start : List ℕ} {r : Run} {l o : List ℕ} {s 
   -- DEF --------------------------------------------------------------------------------------------------------------
 
   -- "33 .. for an empty name at DEF", or the definition
-  definition_sim : (long : 2 < length list)
-      → Sim (M.def r (argument l name 1) (argument l name 2) heads (lent l o))
+  definition_sim : {first second : ℕ} → ArgumentAt l name list 1 first → ArgumentAt l name list 2 second → (long : 2 < length list)
+      → Sim (M.def r first second heads (lent l o))
       (S.perform (limits_of n (length start)) (definition_by (parameter 1 list) (parameter 2 list)) c cs s)
-  definition_sim long = go (parameter 1 list) refl
+  definition_sim {first} {second} name_at value_at long = go (parameter 1 list) refl
     where
       go : (t : Bytes) → parameter 1 list ≡ t
-          → Sim (M.def r (argument l name 1) (argument l name 2) heads (lent l o))
+          → Sim (M.def r first second heads (lent l o))
           (S.perform (limits_of n (length start)) (definition_by t (parameter 2 list)) c cs s)
-      go [] e = rw ((text_is 1 (omega arith)).counted ∙ ap length e) (refusing built_ins_free a EmptyName)
+      go [] e = rw (name_at.counted ∙ ap length e) (refusing built_ins_free a EmptyName)
       go (x ∷ t) e =
-          subst (λ (u : Bytes). Sim (M.def r (argument l name 1) (argument l name 2) heads (lent l o)) (S.perform (limits_of n (length start)) (defines u (parameter 2 list)) c cs s))
-          e (def_sim a long (omega (arith, ap length e)))
+          subst (λ (u : Bytes). Sim (M.def r first second heads (lent l o)) (S.perform (limits_of n (length start)) (defines u (parameter 2 list)) c cs s))
+          e (def_sim a name_at value_at long (omega (arith, ap length e)))
 
   -- VAL --------------------------------------------------------------------------------------------------------------
 
@@ -223,39 +220,32 @@ module _ {n : ℕ} {heads whole start : List ℕ} {r : Run} {l o : List ℕ} {s 
   refuse_sim q t x F (known j bi) e f m k = rw (built_in_named_is x ∙ ap named_of e, k j bi) (refusing built_ins_free a Ends.BuiltIn)
 
   -- a name that is given is looked up: "15, 19", or what is done with the definition that is found
-  given_sim : (long : 1 < length list) (f : Found → Deed) → f missing ≡ faulty Outcomes.not_defined
+  given_sim : {q : ℕ} → TextAt l q (parameter 1 list) → (f : Found → Deed) → f missing ≡ faulty Outcomes.not_defined
       → ((k : ℕ) (bi : BuiltIn) → f (found k (built_in bi)) ≡ faulty Outcomes.built_in) → (done : ℕ → M.After)
       → ((d k : ℕ) (m : D.Macro) → Defines n b l r.right its d k (parameter 1 list) m → D.newest (parameter 1 list) s.standing.definitions ≡ found k (macro m)
       → Ended (done d) (S.perform (limits_of n (length start)) (f (found k (macro m))) c cs s))
       → Ended
-      (cond (eqb (newest l heads (argument l name 1)) nowhere) (M.refuse_name r (argument l name 1) (lent l o))
-      (done (newest l heads (argument l name 1))))
+      (M.given r q done (newest l heads q) (lent l o))
       (S.perform (limits_of n (length start)) (f (D.newest (parameter 1 list) s.standing.definitions)) c cs s)
-  given_sim long f unfound builtin done does = go (newest l heads q) (found' q t x)
+  given_sim {q} x f unfound builtin done does = go (found' q t x)
     where
-      q : ℕ
-      q = argument l name 1
-
       t : Bytes
       t = parameter 1 list
 
-      x : TextAt l q t
-      x = text_is 1 long
-
-      go : (d : ℕ) → Newest n b l r.right its t d
-          → Ended (cond (eqb d nowhere) (M.refuse_name r q (lent l o)) (done d)) (S.perform (limits_of n (length start)) (f (D.newest t s.standing.definitions)) c cs s)
-      go d (absent e h) =
+      go : {d : Option ℕ} → Newest n b l r.right its t d
+          → Ended (M.given r q done d (lent l o)) (S.perform (limits_of n (length start)) (f (D.newest t s.standing.definitions)) c cs s)
+      go (absent h) =
           let g : D.newest t s.standing.definitions ≡ D.newest t built_ins = ap (D.newest t) definitions_are ∙ h built_ins in
-          rw (e, g) (refuse_sim q t x (D.newest t built_ins) (built_ins_only t) refl f unfound builtin)
-      go d (present {k} {c = m} at h) =
+          rw g (refuse_sim q t x (D.newest t built_ins) (built_ins_only t) refl f unfound builtin)
+      go (present {d} {k} {c = m} at h) =
           let g : D.newest t s.standing.definitions ≡ found k (macro m) = ap (D.newest t) definitions_are ∙ h built_ins refl in
-          rw (ne_eqb d nowhere (λ (e : d ≡ nowhere). absurd (omega (arith, at.below))), g) (does d k m at g)
+          rw g (does d k m at g)
 
-  val_sim : (long : 1 < length list)
-      → Ended (M.val r (argument l name 1) heads (lent l o))
+  val_sim : {q : ℕ} → TextAt l q (parameter 1 list)
+      → Ended (M.val r q heads (lent l o))
       (S.perform (limits_of n (length start)) (value_of (D.newest (parameter 1 list) s.standing.definitions)) c cs s)
-  val_sim long =
-      given_sim long value_of refl (λ k bi. refl) (λ d. M.give_block r (d + head_size + name_length l d) (value_length l d) (lent l o)) λ d k m at g.
+  val_sim x =
+      given_sim x value_of refl (λ k bi. refl) (λ d. M.val_at r d (lent l o)) λ d k m at g.
       let from = d + head_size + length (parameter 1 list) in
       let vo : Octets m.value = value_octets (parameter 1 list) s.standing.definitions k m oct.definitions g in
       let fit : from + length m.value ≤ n = omega (arith, at.within, at.cells.fits) in
@@ -356,16 +346,13 @@ module _ {n : ℕ} {heads whole start : List ℕ} {r : Run} {l o : List ℕ} {s 
       alter_sim d k m.value spot locks tt (λ e value spare. refl) (with_lock l d) (lock_alters spot holds_its)
 
   -- the definition that UPDATE found: 36, 20, 21, or its value
-  found_sim : (long : 2 < length list) (d k : ℕ) (m : D.Macro) → Defines n b l r.right its d k (parameter 1 list) m
-      → Ended (M.update_at r (argument l name 2) d (lent l o))
+  found_sim : {q : ℕ} → TextAt l q (parameter 2 list) → (d k : ℕ) (m : D.Macro) → Defines n b l r.right its d k (parameter 1 list) m
+      → Ended (M.update_at r q d (lent l o))
       (S.perform (limits_of n (length start)) (update_of (S.reading s.bodies) (parameter 2 list) (found k (macro m))) c cs s)
-  found_sim long d k m at = rw (at.cells.locking, read_eq) (unlocked m.locked)
+  found_sim {q} y d k m at = rw (at.cells.locking, read_eq) (unlocked m.locked)
     where
       w : Bytes
       w = parameter 2 list
-
-      y : TextAt l (argument l name 2) w
-      y = text_is 2 long
 
       busy : List ℕ
       busy = S.reading s.bodies
@@ -375,51 +362,51 @@ module _ {n : ℕ} {heads whole start : List ℕ} {r : Run} {l o : List ℕ} {s 
           is_read_finds gs gs_valid holds list_gs body_gs (subst (λ (j : List Item). At n b j d k m.value) (sym gs_laid.0) at.at)
           ∙ ap (λ (j : List Body). among k (S.reading j)) (made_bodies n b a.since a.under ∙ sym a.bodies_are)
 
-      test : ltb (room l d) (get_or l (argument l name 2) 0) ≡ ltb m.room (length w)
-      test = ap (λ (j : ℕ). ltb j (get_or l (argument l name 2) 0)) at.cells.roomy ∙ ap (ltb m.room) y.counted
+      test : ltb (room l d) (get_or l q 0) ≡ ltb m.room (length w)
+      test = ap (λ (j : ℕ). ltb j (get_or l q 0)) at.cells.roomy ∙ ap (ltb m.room) y.counted
 
       fits : (z : Bool) → ltb m.room (length w) ≡ z → among k busy ≡ false
-          → Ended (M.update_in r (argument l name 2) d (lent l o))
+          → Ended (M.update_in r q d (lent l o))
           (S.perform (limits_of n (length start)) (cond z (faulty Outcomes.update_too_long) (alters k (updates w))) c cs s)
       fits true e h = rw (test ∙ e) (refusing built_ins_free a UpdateTooLong)
-      fits false e h = rw (test ∙ e) (store_sim d k m (parameter 1 list) w (argument l name 2) at y (ltb-false m.room (length w) e) h)
+      fits false e h = rw (test ∙ e) (store_sim d k m (parameter 1 list) w q at y (ltb-false m.room (length w) e) h)
 
       quiet : (z : Bool) → among k busy ≡ z
-          → Ended (cond z (M.ends BodyBeingRead r (lent l o)) (M.update_in r (argument l name 2) d (lent l o)))
+          → Ended (cond z (M.ends BodyBeingRead r (lent l o)) (M.update_in r q d (lent l o)))
           (S.perform (limits_of n (length start)) (cond z (faulty Outcomes.body_being_read) (cond (ltb m.room (length w)) (faulty Outcomes.update_too_long) (alters k (updates w)))) c cs s)
       quiet true e = refusing built_ins_free a BodyBeingRead
       quiet false e = fits (ltb m.room (length w)) refl e
 
       unlocked : (z : Bool)
           → Ended
-          (cond z (M.ends Locked r (lent l o)) (cond (among k busy) (M.ends BodyBeingRead r (lent l o)) (M.update_in r (argument l name 2) d (lent l o))))
+          (cond z (M.ends Locked r (lent l o)) (cond (among k busy) (M.ends BodyBeingRead r (lent l o)) (M.update_in r q d (lent l o))))
           (S.perform (limits_of n (length start))
           (cond z (faulty Outcomes.locked)
           (cond (among k busy) (faulty Outcomes.body_being_read) (cond (ltb m.room (length w)) (faulty Outcomes.update_too_long) (alters k (updates w))))) c cs s)
       unlocked true = refusing built_ins_free a Locked
       unlocked false = quiet (among k busy) refl
 
-  update_sim : (long : 2 < length list)
-      → Ended (M.update r (argument l name 1) (argument l name 2) heads (lent l o))
+  update_sim : {p q : ℕ} → TextAt l p (parameter 1 list) → TextAt l q (parameter 2 list)
+      → Ended (M.update r p q heads (lent l o))
       (S.perform (limits_of n (length start)) (update_of (S.reading s.bodies) (parameter 2 list) (D.newest (parameter 1 list) s.standing.definitions)) c cs s)
-  update_sim long =
-      given_sim (omega arith) (update_of (S.reading s.bodies) (parameter 2 list)) refl (λ k bi. refl) (λ d. M.update_at r (argument l name 2) d (lent l o))
-      λ d k m at g. found_sim long d k m at
+  update_sim {p} {q} x y =
+      given_sim x (update_of (S.reading s.bodies) (parameter 2 list)) refl (λ k bi. refl) (λ d. M.update_at r q d (lent l o))
+      λ d k m at g. found_sim y d k m at
 
-  lock_sim : (long : 1 < length list)
-      → Ended (M.lock r (argument l name 1) heads (lent l o))
+  lock_sim : {q : ℕ} → TextAt l q (parameter 1 list)
+      → Ended (M.lock r q heads (lent l o))
       (S.perform (limits_of n (length start)) (lock_of (D.newest (parameter 1 list) s.standing.definitions)) c cs s)
-  lock_sim long =
-      given_sim long lock_of refl (λ k bi. refl) (λ d. M.lock_in r d (lent l o)) λ d k m at g. lock_in_sim d k m (parameter 1 list) at
+  lock_sim x =
+      given_sim x lock_of refl (λ k bi. refl) (λ d. M.lock_in r d (lent l o)) λ d k m at g. lock_in_sim d k m (parameter 1 list) at
 
   -- Arithmetic -------------------------------------------------------------------------------------------------------
 
-  arithmetic_sim : (op : Operation) (long : 2 < length list)
+  arithmetic_sim : (op : Operation) {p q : ℕ} → TextAt l p (parameter 1 list) → TextAt l q (parameter 2 list)
       → Ended
-      (M.give_answer r (calculate op l (argument l name 1) (argument l name 2)) (lent l o))
+      (M.give_answer r (calculate op l p q) (lent l o))
       (S.perform (limits_of n (length start)) (result_of (calculated op (parameter 1 list) (parameter 2 list))) c cs s)
-  arithmetic_sim op long =
-      rw (calculate_is op (text_is 1 (omega arith)) (each 1 list list_octets) (text_is 2 long) (each 2 list list_octets))
+  arithmetic_sim op x y =
+      rw (calculate_is op x (each 1 list list_octets) y (each 2 list list_octets))
       (go (calculated op (parameter 1 list) (parameter 2 list)))
     where
       go : (R : Result ℤ Refusal)
@@ -431,23 +418,22 @@ module _ {n : ℕ} {heads whole start : List ℕ} {r : Run} {l o : List ℕ} {s 
 
   -- SEQ, SIZE and IF -------------------------------------------------------------------------------------------------
 
-  seq_sim : (long : 2 < length list)
+  seq_sim : {p q : ℕ} → TextAt l p (parameter 1 list) → TextAt l q (parameter 2 list)
       → Ended
-      (M.give_count r (compare l (argument l name 1) (argument l name 2)) (lent l o))
+      (M.give_count r (compare l p q) (lent l o))
       (S.perform (limits_of n (length start)) (gives (compared (parameter 1 list) (parameter 2 list))) c cs s)
   unfolding digits_of
-  seq_sim long = rw (compare_is (text_is 1 (omega arith)) (text_is 2 long)) (go (D.same (parameter 1 list) (parameter 2 list)))
+  seq_sim x y = rw (compare_is x y) (go (D.same (parameter 1 list) (parameter 2 list)))
     where
       go : (z : Bool) → Ended (M.give_count r (cond z 1 0) (lent l o)) (S.perform (limits_of n (length start)) (gives (cond z (ascii "1") (ascii "0"))) c cs s)
       go true = decimal_sim (ascii "1")
       go false = decimal_sim (ascii "0")
 
-  size_sim : (long : 1 < length list)
+  size_sim : {q : ℕ} → TextAt l q (parameter 1 list)
       → Ended
-      (M.give_count r (get_or l (argument l name 1) 0) (lent l o))
+      (M.give_count r (get_or l q 0) (lent l o))
       (S.perform (limits_of n (length start)) (gives (digits (length (parameter 1 list)))) c cs s)
-  size_sim long =
-      let x = text_is 1 long in
+  size_sim x =
       rw x.counted (decimal_sim (digits (length (parameter 1 list))))
 
   if_sim : Ended (M.choose r name (lent l o)) (S.perform (limits_of n (length start)) (gives (B.chosen (drop 1 list))) c cs s)
@@ -458,26 +444,26 @@ module _ {n : ℕ} {heads whole start : List ℕ} {r : Run} {l o : List ℕ} {s 
       (omega (arith, a.left_is, a.room, a.lies.stands.right, a.lies.stands.size)) named)
       (all_chosen empty (all_drop 1 list_octets))
     where
-      go : (v : Bytes) (q : ℕ) → Picked l v q → Octets v
+      go : (v : Bytes) (q : Option ℕ) → Picked l v q → Octets v
           → Ended (M.choose_at r name q (lent l o)) (S.perform (limits_of n (length start)) (gives v) c cs s)
       go v q (nothing e) os = rw e (block_sim name [] (omega (arith, a.left_is, a.room, a.lies.stands.right)) refl empty)
-      go v q (picked below x) os =
-          rw (ne_eqb q nowhere (λ (e : q ≡ nowhere). absurd (omega arith)), x.counted)
-          (block_sim (q + 1) v (omega (arith, x.within, a.lies.stands.size)) x.bytes os)
+      go v q (picked {q = at} x) os =
+          rw x.counted
+          (block_sim (at + 1) v (omega (arith, x.within, a.lies.stands.size)) x.bytes os)
 
   -- A built-in -------------------------------------------------------------------------------------------------------
 
-  perform_sim : (bi : BuiltIn) → needs bi < length list
-      → Sim (M.perform r bi name heads (lent l o))
+  perform_sim : (bi : BuiltIn) {last : ℕ} → needs bi < length list → ArgumentAt l name list (needs bi) last
+      → Sim (M.perform r bi name last heads (lent l o))
       (S.perform (limits_of n (length start)) (performed (S.reading s.bodies) list s.standing.definitions bi) c cs s)
-  perform_sim Def long = definition_sim long
-  perform_sim Val long = val_sim long
-  perform_sim Update long = update_sim long
-  perform_sim (Arithmetic op) long = arithmetic_sim op long
-  perform_sim Seq long = seq_sim long
-  perform_sim Size long = size_sim long
-  perform_sim If long = if_sim
-  perform_sim Lock long = lock_sim long
+  perform_sim Def long x = definition_sim (first_is (omega arith)) x long
+  perform_sim Val long x = val_sim (text_is x)
+  perform_sim Update long x = update_sim (text_is (first_is (omega arith))) (text_is x)
+  perform_sim (Arithmetic op) long x = arithmetic_sim op (text_is (first_is (omega arith))) (text_is x)
+  perform_sim Seq long x = seq_sim (text_is (first_is (omega arith))) (text_is x)
+  perform_sim Size long x = size_sim (text_is x)
+  perform_sim If long x = if_sim
+  perform_sim Lock long x = lock_sim (text_is x)
 
   -- what it needs, or 13
   supplied_sim : (bi : BuiltIn)
@@ -488,7 +474,10 @@ module _ {n : ℕ} {heads whole start : List ℕ} {r : Run} {l o : List ℕ} {s 
       go : (z : Bool) → ltb (needs bi) (length list) ≡ z
           → Sim (M.supplied r bi name heads (lent l o))
           (S.perform (limits_of n (length start)) (cond z (performed (S.reading s.bodies) list s.standing.definitions bi) (faulty Outcomes.not_supplied)) c cs s)
-      go true q = let long = ltb-true (needs bi) (length list) q in rw (there (needs bi) long) (perform_sim bi long)
+      go true q =
+          let long = ltb-true (needs bi) (length list) q in
+          let x = argument_is (needs bi) long in
+          rw x.found (perform_sim bi long x.is)
       go false q = rw (argument_not (needs bi) (ltb-false (needs bi) (length list) q)) (refusing built_ins_free a NotSupplied)
 
   -- The applied call -------------------------------------------------------------------------------------------------
@@ -500,17 +489,17 @@ module _ {n : ℕ} {heads whole start : List ℕ} {r : Run} {l o : List ℕ} {s 
 
   pub marked_sim : Sim (M.apply_marked r heads (lent l o)) (S.perform (limits_of n (length start)) (deed (S.reading s.bodies) list s.standing.definitions) c cs s)
   unfolding deed
-  marked_sim = go (newest l heads name) (found' name (parameter 0 list) name_text)
+  marked_sim = go (found' name (parameter 0 list) name_text)
     where
       t : Bytes
       t = parameter 0 list
 
-      go : (d : ℕ) → Newest n b l r.right its t d
+      go : {d : Option ℕ} → Newest n b l r.right its t d
           → Sim (M.apply_found r d heads (lent l o))
           (S.perform (limits_of n (length start)) (deed_of (S.reading s.bodies) list s.standing.definitions (D.newest t s.standing.definitions)) c cs s)
-      go d (absent e f) =
+      go (absent f) =
           let g : D.newest t s.standing.definitions ≡ D.newest t built_ins = ap (D.newest t) definitions_are ∙ f built_ins in
-          rw (e, g) (own_sim (D.newest t built_ins) (built_ins_only t) refl)
-      go d (present {k} {c = m} at f) =
+          rw g (own_sim (D.newest t built_ins) (built_ins_only t) refl)
+      go (present {d} {k} {c = m} at f) =
           let g : D.newest t s.standing.definitions ≡ found k (macro m) = ap (D.newest t) definitions_are ∙ f built_ins refl in
-          rw (ne_eqb d nowhere (λ (e : d ≡ nowhere). absurd (omega (arith, at.below))), g) (read_sim d k m at)
+          rw g (read_sim d k m at)

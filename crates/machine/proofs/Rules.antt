@@ -1,5 +1,5 @@
 -- The rule that the code finds before a scan is the one by which that scan writes.
-use Prim.Native.Nat.{ℕ, zero, suc, ◌+◌, ◌%◌, ◌≤◌, ◌<◌}
+use Prim.Native.Nat.{ℕ, zero, suc, ◌+◌, ◌≤◌, ◌<◌}
 use native.Mathlib.Omega.{arith}
 use mathlib.Core.Path.{◌≡◌, refl, sym, ap, subst, ◌∙◌}
 use mathlib.Core.Bool.{Bool, true, false, cond}
@@ -273,11 +273,11 @@ module _ {n : ℕ} {heads whole start : List ℕ} {r : Run} {l o : List ℕ} {s 
         copied_by CopiedFromText G (meaning G.table s.quotes x) x s refl from (λ p. copy)
 
     -- a byte of a body, by its kind
-    body_by : (T : Table) (B : Body) (Bs : List Body) (x : ℕ) (t : Bytes) → M.body_byte r l ≡ x → x < 256
+    body_by : (T : Table) (B : Body) (Bs : List Body) (x : ℕ) (t : Bytes) → M.body_byte r l ≡ Some x
         → RuleIs (cond (fetches_next r T l) Fetched CopiedFromBody)
         (taken (language T) (meaning T s.quotes x) x (S.with_bodies (S.with_rest t B ∷ Bs) s))
     unfolding meaning
-    body_by T B Bs x t is small = go s.quotes refl
+    body_by T B Bs x t is = go s.quotes refl
       where
         fetch : (rest : Bytes) → RuleIs Fetched (O.fetching_in (language T) rest B.list (S.with_bodies (S.with_rest t B ∷ Bs) s))
         fetch [] = tt
@@ -302,8 +302,7 @@ module _ {n : ℕ} {heads whole start : List ℕ} {r : Run} {l o : List ℕ} {s 
 
         go : (q : ℕ) → s.quotes ≡ q → RuleIs (cond (fetches_next r T l) Fetched CopiedFromBody) (taken (language T) (meaning T q x) x (S.with_bodies (S.with_rest t B ∷ Bs) s))
         go zero p =
-            let whole' : x % 256 ≡ x = omega arith in
-            rw (le-ltb 0 r.quotes (omega (arith, h.quotes)), is, whole') (signed (sign_of T x))
+            rw (le-ltb 0 r.quotes (omega (arith, h.quotes)), is) (signed (sign_of T x))
         go (suc q) p =
             rw (lt-ltb 0 r.quotes (omega (arith, h.quotes)))
             (copied_by CopiedFromBody (language T) (inside q (sign_of T x)) x (S.with_bodies (S.with_rest t B ∷ Bs) s) refl refl
@@ -334,7 +333,7 @@ module _ {n : ℕ} {heads whole start : List ℕ} {r : Run} {l o : List ℕ} {s 
         where
           rest : (t : Bytes) → B.rest ≡ t → RuleIs (cond (fetches_next r T l) Fetched CopiedFromBody) (O.taken_from_body (language T) t B Bs s)
           rest [] p = tt
-          rest (x ∷ t) p = body_by e T B Bs x t (body_next h B Bs q x t p (small B Bs x t q p)) (small B Bs x t q p)
+          rest (x ∷ t) p = body_by e T B Bs x t (body_next h B Bs q x t p (small B Bs x t q p))
 
       some_open : (c : Call) (cs : List Call) → s.calls ≡ c ∷ cs → (Bs : List Body) (t : Bytes) → RuleIs (given_by_name l (r.calls.call + 3)) (O.taken_from (language T) Bs t s)
       some_open c cs e [] [] = tt

@@ -21,7 +21,7 @@ use Rattle.language.specs.Octets.{Octets, BodyOctets, HoldsOctets}
 use Rattle.language.proofs.Demand.{built_ins_free}
 use Rattle.language.proofs.Prices.{arguments_last}
 use Rattle.machine.specs.declared.run.Run.{Run}
-use Rattle.machine.specs.Walks.{nowhere, mark}
+use Rattle.machine.specs.Walks.{mark}
 use Rattle.machine.specs.Machine as M
 use Rattle.machine.specs.Machine.{After}
 use Rattle.machine.proofs.Represents.{Simulates, SimulatesIndexed, goes}
@@ -168,7 +168,7 @@ module _ {n : ℕ} {heads whole start : List ℕ} {r : Run} {l o : List ℕ} {s 
   body_sim B Bs e (x ∷ t) q =
       let all = subst (All BodyOctets) e oct.bodies in
       let small : x < 256 = first_octet (subst Octets q (innermost_octets all).rest) in
-      rw (body_next (counted h) B Bs e x t q small, ne_eqb x nowhere (λ z. absurd (omega arith)))
+      rw (body_next (counted h) B Bs e x t q small)
       (byte_sim (advanced (counted h) B Bs x t e q) (body_octets all) T x)
     where
       body_octets : All BodyOctets (B ∷ Bs) → HoldsOctets (S.with_bodies (S.with_rest t B ∷ Bs) (S.counting 0 s))

@@ -5,12 +5,13 @@ use mathlib.Core.List.{List, [], ◌∷◌, ◌++◌}
 use mathlib.Core.Logic.{◌⊎◌}
 use mathlib.Core.Path.{◌≡◌, refl, sym, ◌∙◌}
 use native.Mathlib.Omega.{arith}
+use Rattle.std.specs.Prelude.{None, Some, option_and_then}
 use lib.ListN.{length, get_or}
 use lib.Dec.{eqb, leb}
 use borrow.Author.Tests.{le-leb, lt-leb}
 use Rattle.memory.specs.Block.{block, low_bytes}
 use Rattle.memory.proofs.Blocks.{block_more, length-low_bytes, get_or-low_bytes}
-use Rattle.machine.specs.Walks.{nowhere, mark, argument, is_one, chosen_from, size, is_named, group_link, with_group_link, newest_from, definitions_from, high, low, is_read_from, list_link, return_link, removed_at, removed_from, link_moved, relinked_from, restored_at, restored_from}
+use Rattle.machine.specs.Walks.{nowhere, mark, behind, argument, is_one, chosen_from, size, is_named, group_link, with_group_link, newest_from, definitions_from, high, low, is_read_from, list_link, return_link, removed_at, removed_from, link_moved, relinked_from, restored_at, restored_from}
 
 -- the value of a test that a call answered
 pub told : {r b v : Bool} → r ≡ b → r ≡ v → b ≡ v
@@ -31,34 +32,34 @@ none_left n i h = omega arith
 module _ (l : List ℕ) where
   pub argument_turn :
       (p k i : ℕ) → i < k
-      → argument l p (k - i) ≡ cond (leb mark (get_or l p 0)) nowhere (argument l (p + (get_or l p 0 + 1)) (k - (i + 1)))
+      → argument l p (k - i) ≡ cond (leb mark (get_or l p 0)) None (argument l (behind l p) (k - (i + 1)))
   unfolding argument
   argument_turn p k i h = rw (left k i h)
 
-  pub argument_done : (p k i : ℕ) → k ≤ i → argument l p (k - i) ≡ cond (leb mark (get_or l p 0)) nowhere p
+  pub argument_done : (p k i : ℕ) → k ≤ i → argument l p (k - i) ≡ cond (leb mark (get_or l p 0)) None (Some p)
   unfolding argument
   argument_done p k i h = rw (none_left k i h)
 
   pub chosen_turn :
       (p n i : ℕ) → i < n
       → chosen_from (n - i) l p
-      ≡ cond (leb (length l) p) nowhere
-      (cond (eqb (argument l p 2) nowhere) nowhere (cond (is_one l (argument l p 1)) (argument l p 2) (chosen_from (n - (i + 1)) l (argument l p 2))))
+      ≡ cond (leb (length l) p) None
+      (option_and_then (λ second. cond (is_one l (behind l p)) (Some second) (chosen_from (n - (i + 1)) l second)) (argument l p 2))
   unfolding chosen_from
   chosen_turn p n i h = rw (left n i h)
 
-  pub chosen_done : (p n i : ℕ) → n ≤ i → chosen_from (n - i) l p ≡ nowhere
+  pub chosen_done : (p n i : ℕ) → n ≤ i → chosen_from (n - i) l p ≡ None
   unfolding chosen_from
   chosen_done p n i h = rw (none_left n i h)
 
   pub newest_turn :
       (p name count n i : ℕ) → i < n
       → newest_from (n - i) l p name count
-      ≡ cond (leb (length l) p) nowhere (cond (is_named l p name count) p (newest_from (n - (i + 1)) l (group_link l p) name count))
+      ≡ cond (leb (length l) p) None (cond (is_named l p name count) (Some p) (newest_from (n - (i + 1)) l (group_link l p) name count))
   unfolding newest_from
   newest_turn p name count n i h = rw (left n i h)
 
-  pub newest_done : (p name count n i : ℕ) → n ≤ i → newest_from (n - i) l p name count ≡ nowhere
+  pub newest_done : (p name count n i : ℕ) → n ≤ i → newest_from (n - i) l p name count ≡ None
   unfolding newest_from
   newest_done p name count n i h = rw (none_left n i h)
 

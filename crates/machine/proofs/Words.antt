@@ -4,26 +4,27 @@ use native.Mathlib.Omega.{arith}
 use mathlib.Core.Path.{◌≡◌, refl, sym, ap, ◌∙◌}
 use mathlib.Core.Bool.{Bool, true, false, cond}
 use mathlib.Core.List.{List, [], ◌∷◌, ◌++◌}
+use Rattle.std.specs.Prelude.{Option, None, Some}
 use lib.ListN.{length, take, drop, get_or}
 use lib.Seq.{drop-cons}
-use borrow.Author.Tests.{lt-leb, ne_eqb}
+use borrow.Author.Tests.{lt-leb}
 use Rattle.memory.specs.Block.{block, same, same_blocks}
 use Rattle.memory.proofs.Blocks.{eq_same, same_true, same_blocks_in, same_blocks-true, same_bytes_in}
 use Rattle.language.specs.Signs.{Bytes, ascii}
 use Rattle.language.specs.Definitions as D
 use Rattle.language.specs.BuiltIns as B
 use Rattle.language.specs.Charge.{arguments_price}
-use Rattle.machine.specs.Walks.{nowhere, mark, argument, is_one, chosen_from, compare}
+use Rattle.machine.specs.Walks.{mark, behind, is_one, chosen_from, compare}
 use Rattle.machine.specs.Items.{encode_arguments}
-use Rattle.machine.proofs.Finds.{first_of, argument_at, argument_past}
+use Rattle.machine.proofs.Finds.{first_of, argument_at, argument_behind, argument_past}
 use Rattle.machine.proofs.Naming.{TextAt, argument_text, same_is}
 
 -- What is shown ------------------------------------------------------------------------------------------------------
 
 -- what IF gives, as the code has it: nothing, or the argument at a length cell
-pub data Picked (l : List ℕ) (v : Bytes) : ℕ → Type 0 where
-  nothing : v ≡ [] → Picked l v nowhere
-  picked : {q : ℕ} → q < nowhere → TextAt l q v → Picked l v q
+pub data Picked (l : List ℕ) (v : Bytes) : Option ℕ → Type 0 where
+  nothing : v ≡ [] → Picked l v None
+  picked : {q : ℕ} → TextAt l q v → Picked l v (Some q)
 
 -- SEQ ----------------------------------------------------------------------------------------------------------------
 
@@ -87,16 +88,15 @@ chosen_at (suc t) l p (a ∷ x ∷ []) rest e small sized enough h =
 chosen_at (suc t) l p (a ∷ x ∷ y ∷ more) rest e small sized enough h =
     let f = first_of l p a (x ∷ y ∷ more) (mark ∷ rest) e in
     let g = first_of l (p + (length a + 1)) x (y ∷ more) (mark ∷ rest) f.behind in
-    let q₁ = argument_at l p (a ∷ x ∷ y ∷ more) rest 1 e (omega arith) (omega arith) in
+    let q₁ = argument_behind l p (a ∷ x ∷ y ∷ more) rest e (omega arith) (omega arith) in
     let q₂ = argument_at l p (a ∷ x ∷ y ∷ more) rest 2 e (omega arith) (omega arith) in
-    let first : TextAt l (argument l p 1) x = argument_text q₁ (omega arith) in
-    let second : TextAt l (argument l p 2) y = argument_text q₂ (omega arith) in
-    let at : argument l p 2 ≡ p + (length a + 1) + (length x + 1) = omega (arith, q₂.place) in
-    let below : argument l p 2 < nowhere = omega (arith, q₂.within) in
-    let r = chosen_at t l (argument l p 2) (y ∷ more) rest (ap (λ (j : ℕ). drop j l) at ∙ g.behind) (omega arith) sized (omega arith) (omega arith) in
-    rw (lt-leb (length l) p (omega arith), ne_eqb (argument l p 2) nowhere (λ (z : argument l p 2 ≡ nowhere). absurd (omega arith)), is_one_is first)
-    (go (D.same x (ascii "1")) (picked below second) r)
+    let first : TextAt l (behind l p) x = argument_text q₁ (omega arith) in
+    let second : TextAt l q₂.at y = argument_text q₂.is (omega arith) in
+    let at : q₂.at ≡ p + (length a + 1) + (length x + 1) = omega (arith, q₂.is.place) in
+    let r = chosen_at t l q₂.at (y ∷ more) rest (ap (λ (j : ℕ). drop j l) at ∙ g.behind) (omega arith) sized (omega arith) (omega arith) in
+    rw (lt-leb (length l) p (omega arith), q₂.found, is_one_is first)
+    (go (D.same x (ascii "1")) (picked second) r)
   where
-    go : (b : Bool) {q q' : ℕ} → Picked l y q → Picked l (B.chosen more) q' → Picked l (cond b y (B.chosen more)) (cond b q q')
+    go : (b : Bool) {q q' : Option ℕ} → Picked l y q → Picked l (B.chosen more) q' → Picked l (cond b y (B.chosen more)) (cond b q q')
     go true here further = here
     go false here further = further

@@ -1,7 +1,6 @@
 -- Document 02, Thirteen: what the index holds, and what a lookup finds by it, as both are read off the heads and the cells.
-use Rattle.std.specs.Prelude.{Some}
-use Rattle.std.specs.Prelude.{ℕ, zero, suc, ◌+◌, ◌≤◌, ◌<◌, ◌≡◌, cond, List, ◌++◌, length, get_or, eqb}
-use Rattle.std.specs.Prelude.{Option, Some}
+use Rattle.std.specs.Prelude.{ℕ, zero, suc, ◌+◌, ◌≤◌, ◌<◌, ◌≡◌, List, ◌++◌, length, get_or}
+use Rattle.std.specs.Prelude.{Option, None, Some}
 use Rattle.memory.specs.Block.{block}
 use Rattle.language.specs.Signs.{Bytes}
 use Rattle.language.specs.Definitions.{Content, Definition}
@@ -10,13 +9,14 @@ use Rattle.language.specs.Groups.{groups, of_group, content_of}
 use Rattle.language.specs.BuiltIns.{built_ins}
 use Rattle.language.specs.Scanning.{Step, next, stop}
 use Rattle.machine.specs.declared.run.Answer.TheVariants.{GoesOn}
-use Rattle.machine.specs.Walks.{nowhere, size, newest}
+use Rattle.machine.specs.Walks.{size, newest}
 use Rattle.machine.specs.Machine.{outcome_in, Indexed}
 use Rattle.machine.specs.Held.{definition_at, group_held}
 
 -- what stands at a position that a lookup came to, or what it came to where it found none
-abbrev pub content_at : List ℕ → ℕ → Option Content → Option Content
-content_at l p other = cond (eqb p nowhere) other (Some (definition_at l p).content)
+abbrev pub content_at : List ℕ → Option ℕ → Option Content → Option Content
+content_at l None other = other
+content_at l (Some p) other = Some (definition_at l p).content
 
 -- The definitions ds stand, the oldest of them, `older`, in no cell.
 pub record Grouped (older : List Definition) (heads l : List ℕ) (ds : List Definition) : Type 0 where

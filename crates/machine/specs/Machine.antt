@@ -1,11 +1,11 @@
 -- The standing, the range of its numbers and what a function leaves, as the promise of `go_on` has them (specs/Moving); then what
 -- each function of the code does, exactly, for any content of the cells: one definition for each function. Those nobody has to
 -- believe: proofs/ shows that they are the scanning of crate language.
-use Rattle.std.specs.Prelude.{Option, None, Some, Result, Ok, Err, ℕ, zero, suc, ◌+◌, ◌-◌, ◌%◌, ◌≤◌, ◌<◌, max, ◌≡◌, Bool, true, false, cond, List, length, get_or, set, eqb, leb, ltb}
+use Rattle.std.specs.Prelude.{Option, None, Some, option_and_then, Result, Ok, Err, ℕ, zero, suc, ◌+◌, ◌-◌, ◌%◌, ◌≤◌, ◌<◌, max, ◌≡◌, Bool, true, false, cond, List, length, get_or, set, eqb, leb, ltb}
 use Rattle.memory.specs.Block.{moved, copied, low_bytes}
 use Rattle.language.specs.declared.built_ins.BuiltIn.{BuiltIn}
 use Rattle.language.specs.declared.built_ins.BuiltIn.TheVariants.{Def, Val, Update, Arithmetic, Seq, Size, If, Lock}
-use Rattle.language.specs.Signs.{is_letter, cells_limit, sign_of}
+use Rattle.language.specs.Signs.{parameter_number, cells_limit, sign_of}
 use Rattle.language.specs.declared.outcomes.Outcome.{Outcome}
 use Rattle.language.specs.Outcomes.{number_of, outcome_of}
 use Rattle.language.specs.declared.signs.Sign.{Sign}
@@ -13,9 +13,8 @@ use Rattle.language.specs.declared.signs.Sign.TheVariants.{Plain, Dollar, Comma,
 use Rattle.language.specs.BuiltIns.{needs}
 use Rattle.language.specs.Charge.{open_price}
 use Rattle.language.specs.Expansion.{Lent}
-use Rattle.machine.specs.Walks.{nowhere, mark, packed, high, low, cell, head_size, arguments_from, list_overhead, is_locked, with_lock, name_length, room, value_length, with_value_length, with_head, right_before, with_right_before, list_link, return_link, with_links, argument, newest, definitions, is_read, chosen, removed, linked_at, headed_at, relinked, restored, built_in_named, compare, calculate}
+use Rattle.machine.specs.Walks.{nowhere, mark, packed, high, low, cell, head_size, arguments_from, list_overhead, is_locked, with_lock, name_length, room, value_length, with_value_length, with_head, right_before, with_right_before, list_link, return_link, with_links, behind, argument, newest, definitions, is_read, chosen, removed, linked_at, headed_at, relinked, restored, built_in_named, compare, calculate}
 use Rattle.decimal.specs.declared.operations.Refusal.{Refusal}
-use Rattle.decimal.specs.Operand.{is_digit}
 use Rattle.decimal.specs.Shortest.{digits}
 use Rattle.machine.specs.declared.run.Calls.{Calls}
 use Rattle.machine.specs.declared.run.Source.{Source}
@@ -246,31 +245,28 @@ end_by_comma r m =
 abbrev pub separate : Run → ℕ → Lent → After
 separate r b m = cond (eqb r.calls.call nowhere) (write r b m) (end_by_comma r m)
 
--- the next byte of the body being read, or nowhere at its end
-abbrev pub body_byte : Run → List ℕ → ℕ
+-- the next byte of the body being read; none at its end
+abbrev pub body_byte : Run → List ℕ → Option ℕ
 body_byte r l =
     let d = r.source.body in
-    cond (leb (value_length l d) r.source.offset) nowhere (get_or l (d + head_size + name_length l d + r.source.offset) 0 % 256)
-
--- the parameter that the byte after `~` stands for, or nowhere
-abbrev pub parameter_number : ℕ → ℕ
-parameter_number b = cond (is_letter b) (b - 97 + 10) (cond (is_digit b) (b - 48) nowhere)
+    cond (leb (value_length l d) r.source.offset) None (Some (get_or l (d + head_size + name_length l d + r.source.offset) 0 % 256))
 
 abbrev pub fetch_in_text : Run → ℕ → Lent → After
 fetch_in_text r b m = cond (eqb r.calls.call nowhere) (write r b m) (ends ParameterInText r m)
 
 -- the parameter whose length cell is at p
-abbrev pub fetch_argument : Run → ℕ → Lent → After
-fetch_argument r p m =
-    cond (eqb p nowhere) (ends NotSupplied r m) (copy (with_offset (r.source.offset + 1) r) (p + 1) (get_or m.cells p 0) m)
+abbrev pub fetch_argument : Run → Option ℕ → Lent → After
+fetch_argument r None m = ends NotSupplied r m
+fetch_argument r (Some p) m = copy (with_offset (r.source.offset + 1) r) (p + 1) (get_or m.cells p 0) m
 
-abbrev pub fetch_number : Run → ℕ → Lent → After
-fetch_number r k m =
-    cond (eqb k nowhere) (ends FetchesNothing r m) (fetch_argument r (argument m.cells (r.source.list + arguments_from) k) m)
+-- the parameter with a number
+abbrev pub fetch_number : Run → Option ℕ → Lent → After
+fetch_number r None m = ends FetchesNothing r m
+fetch_number r (Some k) m = fetch_argument r (argument m.cells (r.source.list + arguments_from) k) m
 
+-- the parameter that the next byte stands for
 abbrev pub fetch_in_body : Run → Lent → After
-fetch_in_body r m =
-    cond (eqb (body_byte r m.cells) nowhere) (ends FetchesNothing r m) (fetch_number r (parameter_number (body_byte r m.cells)) m)
+fetch_in_body r m = fetch_number r (option_and_then parameter_number (body_byte r m.cells)) m
 
 abbrev pub fetch : Run → ℕ → Lent → After
 fetch r b m = cond (eqb r.source.list nowhere) (fetch_in_text r b m) (fetch_in_body r m)
@@ -431,14 +427,17 @@ refuse_named (Some b) r m = ends Outcomes.BuiltIn r m
 abbrev pub refuse_name : Run → ℕ → Lent → After
 refuse_name r name m = refuse_named (built_in_named m.cells name) r m
 
+-- what is done with the definition that was found under a name, if one was
+abbrev pub given : Run → ℕ → (ℕ → After) → Option ℕ → Lent → After
+given r name done None m = refuse_name r name m
+given r name done (Some d) m = done d
+
 -- VAL
-abbrev pub val_of : Run → ℕ → ℕ → Lent → After
-val_of r name d m =
-    let l = m.cells in
-    cond (eqb d nowhere) (refuse_name r name m) (give_block r (d + head_size + name_length l d) (value_length l d) m)
+abbrev pub val_at : Run → ℕ → Lent → After
+val_at r d m = let l = m.cells in give_block r (d + head_size + name_length l d) (value_length l d) m
 
 abbrev pub val : Run → ℕ → List ℕ → Lent → After
-val r name h m = val_of r name (newest m.cells h name) m
+val r name h m = given r name (λ d. val_at r d m) (newest m.cells h name) m
 
 -- UPDATE: "15 for the name given, 19", 36, "20, 21"
 abbrev pub update_in : Run → ℕ → ℕ → Lent → After
@@ -457,11 +456,8 @@ update_at r value d m =
     cond (is_locked m.cells d) (ends Locked r m)
     (cond (is_read m.cells r.source.list r.source.body d) (ends BodyBeingRead r m) (update_in r value d m))
 
-abbrev pub update_of : Run → ℕ → ℕ → ℕ → Lent → After
-update_of r name value d m = cond (eqb d nowhere) (refuse_name r name m) (update_at r value d m)
-
 abbrev pub update : Run → ℕ → ℕ → List ℕ → Lent → After
-update r name value h m = update_of r name value (newest m.cells h name) m
+update r name value h m = given r name (λ d. update_at r value d m) (newest m.cells h name) m
 
 -- the arithmetic
 abbrev pub give_answer : Run → Result (List ℕ) Refusal → Lent → After
@@ -473,8 +469,9 @@ abbrev pub give_count : Run → ℕ → Lent → After
 give_count r count m = give_decimal r (digits count) m
 
 -- IF gives a parameter, or nothing
-abbrev pub choose_at : Run → ℕ → ℕ → Lent → After
-choose_at r name second m = cond (eqb second nowhere) (give_block r name 0 m) (give_block r (second + 1) (get_or m.cells second 0) m)
+abbrev pub choose_at : Run → ℕ → Option ℕ → Lent → After
+choose_at r name None m = give_block r name 0 m
+choose_at r name (Some second) m = give_block r (second + 1) (get_or m.cells second 0) m
 
 abbrev pub choose : Run → ℕ → Lent → After
 choose r name m = choose_at r name (chosen m.cells name) m
@@ -483,31 +480,31 @@ choose r name m = choose_at r name (chosen m.cells name) m
 abbrev pub lock_in : Run → ℕ → Lent → After
 lock_in r d m = let a = release r 0 m in record { run = a.run; answer = a.answer; lent = with_cells (with_lock m.cells d) m }
 
-abbrev pub lock_of : Run → ℕ → ℕ → Lent → After
-lock_of r name d m = cond (eqb d nowhere) (refuse_name r name m) (lock_in r d m)
-
 abbrev pub lock : Run → ℕ → List ℕ → Lent → After
-lock r name h m = lock_of r name (newest m.cells h name) m
+lock r name h m = given r name (λ d. lock_in r d m) (newest m.cells h name) m
 
--- the built-in that has its parameters, the list of its call being at `name`: "Surplus parameters are ignored." IF has none that
--- are surplus
+-- the built-in that has its parameters, the first of them behind its name and the last that it needs at `last`: "Surplus parameters
+-- are ignored." IF has none that are surplus
 abbrev pub perform_in : Run → BuiltIn → ℕ → ℕ → ℕ → List ℕ → Lent → Indexed
-perform_in r Def name first second h m = def r first second h m
-perform_in r Val name first second h m = unindexed r h (val r first h m)
-perform_in r Update name first second h m = unindexed r h (update r first second h m)
-perform_in r (Arithmetic op) name first second h m = unindexed r h (give_answer r (calculate op m.cells first second) m)
-perform_in r Seq name first second h m = unindexed r h (give_count r (compare m.cells first second) m)
-perform_in r Size name first second h m = unindexed r h (give_count r (get_or m.cells first 0) m)
-perform_in r If name first second h m = unindexed r h (choose r name m)
-perform_in r Lock name first second h m = unindexed r h (lock r first h m)
+perform_in r Def name first last h m = def r first last h m
+perform_in r Val name first last h m = unindexed r h (val r last h m)
+perform_in r Update name first last h m = unindexed r h (update r first last h m)
+perform_in r (Arithmetic op) name first last h m = unindexed r h (give_answer r (calculate op m.cells first last) m)
+perform_in r Seq name first last h m = unindexed r h (give_count r (compare m.cells first last) m)
+perform_in r Size name first last h m = unindexed r h (give_count r (get_or m.cells last 0) m)
+perform_in r If name first last h m = unindexed r h (choose r name m)
+perform_in r Lock name first last h m = unindexed r h (lock r last h m)
 
-abbrev pub perform : Run → BuiltIn → ℕ → List ℕ → Lent → Indexed
-perform r b name h m = perform_in r b name (argument m.cells name 1) (argument m.cells name 2) h m
+abbrev pub perform : Run → BuiltIn → ℕ → ℕ → List ℕ → Lent → Indexed
+perform r b name last h m = perform_in r b name (behind m.cells name) last h m
 
 -- 13: "a parameter .. needed by a built-in, was not supplied"
+abbrev pub supplied_to : Run → BuiltIn → ℕ → Option ℕ → List ℕ → Lent → Indexed
+supplied_to r b name None h m = keeping h (ends NotSupplied r m)
+supplied_to r b name (Some last) h m = perform r b name last h m
+
 abbrev pub supplied : Run → BuiltIn → ℕ → List ℕ → Lent → Indexed
-supplied r b name h m =
-    cond (eqb (argument m.cells name (needs b)) nowhere) (keeping h (ends NotSupplied r m)) (perform r b name h m)
+supplied r b name h m = supplied_to r b name (argument m.cells name (needs b)) h m
 
 abbrev pub apply_named : Run → Option BuiltIn → ℕ → List ℕ → Lent → Indexed
 apply_named r None name h m = keeping h (ends NotDefined r m)
@@ -534,9 +531,9 @@ read_body r definition m =
     goes (body_begun r definition (r.right - size) (return_link m.cells r.calls.call))
     (with_cells (list_moved r (r.right - size) size m.cells) m)
 
-abbrev pub apply_found : Run → ℕ → List ℕ → Lent → Indexed
-apply_found r definition h m =
-    cond (eqb definition nowhere) (apply_built_in r (r.calls.call + arguments_from) h m) (keeping h (read_body r definition m))
+abbrev pub apply_found : Run → Option ℕ → List ℕ → Lent → Indexed
+apply_found r None h m = apply_built_in r (r.calls.call + arguments_from) h m
+apply_found r (Some d) h m = keeping h (read_body r d m)
 
 abbrev pub apply_marked : Run → List ℕ → Lent → Indexed
 apply_marked r h m = apply_found r (newest m.cells h (r.calls.call + arguments_from)) h m
@@ -580,11 +577,11 @@ scan_sign r Unquote b h m = keeping h (unquote r b m)
 abbrev pub scan_byte : Run → Sign → ℕ → List ℕ → Lent → Indexed
 scan_byte r sign b h m = cond (ltb 0 r.quotes) (keeping h (scan_quoted r sign b m)) (scan_sign r sign b h m)
 
--- the next byte of the innermost body, else of the text, or nowhere at its end; the standing behind it; and that end
-abbrev pub next_byte : Run → List ℕ → List ℕ → ℕ
+-- the next byte of the innermost body, else of the text, none at its end; the standing behind it; and that end
+abbrev pub next_byte : Run → List ℕ → List ℕ → Option ℕ
 next_byte r text l =
     cond (eqb r.source.list nowhere)
-    (cond (leb (length text) r.counts.read) nowhere (get_or text r.counts.read 0)) (body_byte r l)
+    (cond (leb (length text) r.counts.read) None (Some (get_or text r.counts.read 0))) (body_byte r l)
 
 abbrev pub passed : Run → Run
 passed r = cond (eqb r.source.list nowhere) (with_read (r.counts.read + 1) r) (with_offset (r.source.offset + 1) r)
@@ -598,10 +595,12 @@ scan_text r kinds text h m =
     let b = get_or text r.counts.read 0 in
     cond (leb (length text) r.counts.read) (keeping h (end_text r m)) (scan_byte (with_read (r.counts.read + 1) r) (sign_of kinds b) b h m)
 
+abbrev pub scan_body_at : Run → List ℕ → Option ℕ → List ℕ → Lent → Indexed
+scan_body_at r kinds None h m = end_body r h m
+scan_body_at r kinds (Some b) h m = scan_byte (with_offset (r.source.offset + 1) r) (sign_of kinds b) b h m
+
 abbrev pub scan_body : Run → List ℕ → List ℕ → Lent → Indexed
-scan_body r kinds h m =
-    let b = body_byte r m.cells in
-    cond (eqb b nowhere) (end_body r h m) (scan_byte (with_offset (r.source.offset + 1) r) (sign_of kinds b) b h m)
+scan_body r kinds h m = scan_body_at r kinds (body_byte r m.cells) h m
 
 -- "One scan takes the standing of the run and gives the next."
 unfoldable pub step : Run → List ℕ → List ℕ → List ℕ → Lent → Indexed

@@ -1,5 +1,5 @@
 -- Where each byte of the output came from: what `go_on` promises beside `Moves`, and what its functions do.
-use Rattle.std.specs.Prelude.{ℕ, ◌+◌, ◌-◌, ◌%◌, ◌<◌, ◌≡◌, Bool, true, false, cond, List, length, get_or, eqb, ltb}
+use Rattle.std.specs.Prelude.{Option, None, Some, ℕ, ◌+◌, ◌-◌, ◌<◌, ◌≡◌, Bool, true, false, cond, List, length, get_or, eqb, ltb}
 use Rattle.memory.specs.Block.{placed, same_bytes, filled}
 use Rattle.language.specs.declared.rules.Rule.{Rule}
 use Rattle.language.specs.declared.rules.Rule.TheVariants.{CopiedFromText, CopiedFromBody, Fetched, GivenByVal, GivenByBuiltIn}
@@ -46,9 +46,13 @@ is_tilde Tilde = true
 is_tilde Quote = false
 is_tilde Unquote = false
 
+abbrev pub tilde_next : List ℕ → Option ℕ → Bool
+tilde_next kinds None = false
+tilde_next kinds (Some b) = is_tilde (sign_of kinds b)
+
 -- whether the next byte of the body being read is an unquoted `~`
 abbrev pub fetches_next : Run → List ℕ → List ℕ → Bool
-fetches_next r kinds l = cond (ltb 0 r.quotes) false (is_tilde (sign_of kinds (body_byte r l % 256)))
+fetches_next r kinds l = cond (ltb 0 r.quotes) false (tilde_next kinds (body_byte r l))
 
 -- VAL, or another built-in, by the name at a length cell
 abbrev pub given_by_name : List ℕ → ℕ → Rule

@@ -1,6 +1,6 @@
 -- Walks over lent cells: what each function answers, exactly, for any content of the cells. A walk makes at most so many turns.
 use Rattle.std.specs.Prelude.{ℕ, zero, suc, ◌+◌, ◌*◌, ◌/◌, ◌%◌, Bool, true, false, cond, List, [], ◌∷◌, length, get_or, set, eqb, leb, ltb, ℤ}
-use Rattle.std.specs.Prelude.{Option, None, Some, Result}
+use Rattle.std.specs.Prelude.{Option, None, Some, option_and_then, Result}
 use Rattle.memory.specs.Block.{within, block, low_bytes, same_blocks, same_bytes}
 use Rattle.decimal.specs.declared.operations.Operation.{Operation}
 use Rattle.decimal.specs.declared.operations.Refusal.{Refusal}
@@ -97,24 +97,27 @@ with_links l p list back = set (set l (p + 1) list) (p + 2) back
 
 -- Lists and definitions ----------------------------------------------------------------------------------------------
 
--- the length cell of an argument, counted from the one at p, or nowhere
-unfoldable pub argument : List ℕ → ℕ → ℕ → ℕ
-argument l p zero = cond (leb mark (get_or l p 0)) nowhere p
-argument l p (suc k) = let r = argument l (p + (get_or l p 0 + 1)) k in cond (leb mark (get_or l p 0)) nowhere r
+-- the length cell behind the argument at a length cell
+abbrev pub behind : List ℕ → ℕ → ℕ
+behind l p = p + (get_or l p 0 + 1)
+
+-- the length cell of an argument, counted from the one at p
+unfoldable pub argument : List ℕ → ℕ → ℕ → Option ℕ
+argument l p zero = cond (leb mark (get_or l p 0)) None (Some p)
+argument l p (suc k) = let r = argument l (behind l p) k in cond (leb mark (get_or l p 0)) None r
 
 -- whether the argument at a length cell is exactly `1`
 abbrev pub is_one : List ℕ → ℕ → Bool
 is_one l p = same_bytes (p + 1) (get_or l p 0) (ascii "1") l
 
-unfoldable pub chosen_from : ℕ → List ℕ → ℕ → ℕ
-chosen_from zero l p = nowhere
+unfoldable pub chosen_from : ℕ → List ℕ → ℕ → Option ℕ
+chosen_from zero l p = None
 chosen_from (suc t) l p =
-    let second = argument l p 2 in
-    let r = chosen_from t l second in
-    cond (leb (length l) p) nowhere (cond (eqb second nowhere) nowhere (cond (is_one l (argument l p 1)) second r))
+    let next = λ (second : ℕ). cond (is_one l (behind l p)) (Some second) (chosen_from t l second) in
+    cond (leb (length l) p) None (option_and_then next (argument l p 2))
 
--- IF: of the pairs behind the argument at a length cell the second of the first whose first is `1`, or nowhere
-abbrev pub chosen : List ℕ → ℕ → ℕ
+-- IF: of the pairs behind the argument at a length cell the second of the first whose first is `1`
+abbrev pub chosen : List ℕ → ℕ → Option ℕ
 chosen l name = chosen_from (length l) l name
 
 -- the cells of a definition at p
@@ -131,15 +134,15 @@ definition_group l p = group (block (p + head_size) (name_length l p) l)
 abbrev pub is_named : List ℕ → ℕ → ℕ → ℕ → Bool
 is_named l p name count = cond (eqb (name_length l p) count) (same_blocks (p + head_size) (name + 1) count l) false
 
-unfoldable pub newest_from : ℕ → List ℕ → ℕ → ℕ → ℕ → ℕ
-newest_from zero l p name count = nowhere
+unfoldable pub newest_from : ℕ → List ℕ → ℕ → ℕ → ℕ → Option ℕ
+newest_from zero l p name count = None
 newest_from (suc t) l p name count =
     let r = newest_from t l (group_link l p) name count in
-    cond (leb (length l) p) nowhere (cond (is_named l p name count) p r)
+    cond (leb (length l) p) None (cond (is_named l p name count) (Some p) r)
 
--- "A lookup reads one group": the newest definition with the name at a length cell, or nowhere. `heads` are where the newest
--- definition of each group stands, or the mark.
-abbrev pub newest : List ℕ → List ℕ → ℕ → ℕ
+-- "A lookup reads one group": the newest definition with the name at a length cell. `heads` are where the newest definition of each
+-- group stands, or the mark.
+abbrev pub newest : List ℕ → List ℕ → ℕ → Option ℕ
 newest l heads name = newest_from (length l) l (get_or heads (name_group l name) 0) name (get_or l name 0)
 
 unfoldable pub definitions_from : ℕ → List ℕ → ℕ → ℕ → ℕ

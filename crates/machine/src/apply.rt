@@ -52,10 +52,9 @@ impl Run {
         ensures { leaves_indexed result (lent cells.new output.new) heads.new ≡ apply_marked self heads.old (lent cells.old output.old) }
     {
         let name = self.calls.call + layout::ARGUMENTS;
-        let found = lookup::newest(cells, heads, name);
-        if found == Run::NOWHERE {
+        let Some(found) = lookup::newest(cells, heads, name) else {
             return self.apply_built_in(name, heads, cells, output);
-        }
+        };
         self.read_body(found, cells)
     }
 

@@ -40,37 +40,38 @@ impl Run {
         requires { (Marked (length cells.old) self) × (self.counts.written ≤ length output.old) × (name ≤ cells_limit + 4) }
         ensures { leaves_indexed result (lent cells.new output.new) heads.new ≡ supplied self built_in name heads.old (lent cells.old output.old) }
     {
-        if lookup::argument(cells, name, built_in.needs()) == Run::NOWHERE {
+        let Some(last) = lookup::argument(cells, name, built_in.needs()) else {
             return self.ends_with(Outcome::NotSupplied);
-        }
-        self.perform(built_in, name, heads, cells, output)
+        };
+        self.perform(built_in, name, last, heads, cells, output)
     }
 
+    // The first parameter stands behind the name, the last that is needed at `last`.
     fn perform(
         self,
         built_in: BuiltIn,
         name: usize,
+        last: usize,
         heads: &mut [u32; 64],
         cells: &mut [u32],
         output: &mut [u8],
     ) -> Stepped
-        requires { (Marked (length cells.old) self) × (self.counts.written ≤ length output.old) × (name ≤ cells_limit + 4) }
-        ensures { leaves_indexed result (lent cells.new output.new) heads.new ≡ perform self built_in name heads.old (lent cells.old output.old) }
+        requires { (Marked (length cells.old) self) × (self.counts.written ≤ length output.old) × (name ≤ cells_limit + 4) × (last ≤ 8589934592) }
+        ensures { leaves_indexed result (lent cells.new output.new) heads.new ≡ perform self built_in name last heads.old (lent cells.old output.old) }
     {
-        let first = lookup::argument(cells, name, 1);
-        let second = lookup::argument(cells, name, 2);
+        let first = lookup::behind(cells, name);
         let st = match built_in {
-            BuiltIn::Def => return self.def(first, second, heads, cells),
-            BuiltIn::Val => self.val(first, heads, cells, output),
-            BuiltIn::Update => self.update(first, second, heads, cells),
+            BuiltIn::Def => return self.def(first, last, heads, cells),
+            BuiltIn::Val => self.val(last, heads, cells, output),
+            BuiltIn::Update => self.update(first, last, heads, cells),
             BuiltIn::Arithmetic(operation) => {
-                let answer = operands::calculate(operation, cells, first, second);
+                let answer = operands::calculate(operation, cells, first, last);
                 self.give_answer(answer, cells, output)
             }
-            BuiltIn::Seq => self.give_count(operands::compare(cells, first, second), cells, output),
-            BuiltIn::Size => self.give_count(memory::read(cells, first), cells, output),
+            BuiltIn::Seq => self.give_count(operands::compare(cells, first, last), cells, output),
+            BuiltIn::Size => self.give_count(memory::read(cells, last), cells, output),
             BuiltIn::If => self.choose(name, cells, output),
-            BuiltIn::Lock => self.lock(first, heads, cells),
+            BuiltIn::Lock => self.lock(last, heads, cells),
         };
         self.unindex(st, heads, cells);
         st
@@ -201,10 +202,9 @@ impl Run {
         requires { (Marked (length cells.old) self) × (self.counts.written ≤ length output.old) × (name ≤ 8589934592) }
         ensures { leaves result (lent cells.new output.new) ≡ val self name heads.now (lent cells.old output.old) }
     {
-        let found = lookup::newest(cells, heads, name);
-        if found == Run::NOWHERE {
+        let Some(found) = lookup::newest(cells, heads, name) else {
             return self.refuse_name(name, cells);
-        }
+        };
         let count = layout::value_length(cells, found) as usize;
         let letters = layout::name_length(cells, found) as usize;
         self.give_block(found + layout::HEAD_SIZE + letters, count, cells, output)
@@ -226,10 +226,9 @@ impl Run {
         requires { (Marked (length cells.old) self) × (name ≤ 8589934592) × (value ≤ 8589934592) }
         ensures { (o : List ℕ) → leaves result (lent cells.new o) ≡ update self name value heads.now (lent cells.old o) }
     {
-        let found = lookup::newest(cells, heads, name);
-        if found == Run::NOWHERE {
+        let Some(found) = lookup::newest(cells, heads, name) else {
             return self.refuse_name(name, cells);
-        }
+        };
         if layout::is_locked(cells, found) {
             return self.ends_with(Outcome::Locked);
         }
@@ -260,10 +259,9 @@ impl Run {
         requires { (Marked (length cells.old) self) × (self.counts.written ≤ length output.old) × (name ≤ cells_limit + 4) }
         ensures { leaves result (lent cells.new output.new) ≡ choose self name (lent cells.old output.old) }
     {
-        let second = lookup::chosen(cells, name);
-        if second == Run::NOWHERE {
+        let Some(second) = lookup::chosen(cells, name) else {
             return self.give_block(name, 0, cells, output);
-        }
+        };
         let count = memory::read(cells, second) as usize;
         self.give_block(second + 1, count, cells, output)
     }
@@ -273,10 +271,9 @@ impl Run {
         requires { (Marked (length cells.old) self) × (name ≤ 8589934592) }
         ensures { (o : List ℕ) → leaves result (lent cells.new o) ≡ lock self name heads.now (lent cells.old o) }
     {
-        let found = lookup::newest(cells, heads, name);
-        if found == Run::NOWHERE {
+        let Some(found) = lookup::newest(cells, heads, name) else {
             return self.refuse_name(name, cells);
-        }
+        };
         let st = self.release(0, cells);
         layout::write_lock(cells, found);
         st

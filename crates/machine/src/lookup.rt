@@ -1,53 +1,60 @@
-// Walks over the cells. Each makes at most so many turns, and answers NOWHERE where what it looks for is not there.
-ghost use Rattle.std.specs.Prelude.{◌≡◌, ◌+◌, ◌-◌, ◌≤◌, ◌<◌, ◌⊎◌, length, MatchOption};
+// Walks over the cells. Each makes at most so many turns, and answers None where what it looks for is not there.
+ghost use Rattle.std.specs.Prelude.{◌≡◌, ◌+◌, ◌-◌, ◌≤◌, ◌<◌, ◌⊎◌, length, IfSome, MatchOption};
 ghost use Rattle.std.specs.Iterator.{at_most};
 ghost use Rattle.language.specs.Signs.{cells_limit};
-ghost use Rattle.machine.specs.Walks.{nowhere, argument, is_one, chosen, size, is_named, newest, definitions, is_read};
+ghost use Rattle.machine.specs.Walks.{nowhere, behind, argument, is_one, chosen, size, is_named, newest, definitions, is_read};
 
 use crate::run::Run;
 use crate::{index, layout};
 
 // The length cell of an argument of a list, counted from the one at `from`.
 #[tactic(auto, using(crate::proofs::Turns::argument_turn, crate::proofs::Turns::argument_done))]
-pub(crate) fn argument(cells: &[u32], from: usize, index: usize) -> usize
+pub(crate) fn argument(cells: &[u32], from: usize, index: usize) -> Option<usize>
     requires { (from ≤ cells_limit + 4) × (index ≤ nowhere) }
-    ensures { (result ≡ argument cells.now from index) × (result ≤ 8589934592) }
+    ensures found { result ≡ argument cells.now from index }
+    ensures below { IfSome result (λ p. p ≤ 8589934592) }
 {
     let mut position = from;
     for _ in 0..index {
         let length = memory::read(cells, position);
         if length >= layout::MARK {
-            return Run::NOWHERE;
+            return None;
         }
         position += length as usize + 1;
     }
     if memory::read(cells, position) >= layout::MARK {
-        return Run::NOWHERE;
+        return None;
     }
-    position
+    Some(position)
+}
+
+// The length cell behind the argument at a length cell.
+pub(crate) fn behind(cells: &[u32], argument: usize) -> usize
+    requires { argument ≤ cells_limit + 4 }
+    ensures { (result ≡ behind cells.now argument) × (result ≤ 8589934592) }
+{
+    argument + (memory::read(cells, argument) as usize + 1)
 }
 
 // The length cell of what IF gives, the list of its call being at `name`: the second of the first pair whose first is `1`.
 #[tactic(auto, using(crate::proofs::Turns::chosen_turn, crate::proofs::Turns::chosen_done))]
-pub(crate) fn chosen(cells: &[u32], name: usize) -> usize
+pub(crate) fn chosen(cells: &[u32], name: usize) -> Option<usize>
     requires { (length cells.now ≤ cells_limit) × (name ≤ cells_limit + 4) }
-    ensures { (result ≡ chosen cells.now name) × (result ≤ 8589934592) }
+    ensures found { result ≡ chosen cells.now name }
+    ensures below { IfSome result (λ p. p ≤ 8589934592) }
 {
     let mut position = name;
     for _ in 0..cells.len() {
         if position >= cells.len() {
-            return Run::NOWHERE;
+            return None;
         }
-        let second = argument(cells, position, 2);
-        if second == Run::NOWHERE {
-            return Run::NOWHERE;
-        }
-        if is_one(cells, argument(cells, position, 1)) {
-            return second;
+        let second = argument(cells, position, 2)?;
+        if is_one(cells, behind(cells, position)) {
+            return Some(second);
         }
         position = second;
     }
-    Run::NOWHERE
+    None
 }
 
 // Whether the argument at a length cell is exactly `1`.
@@ -61,23 +68,24 @@ fn is_one(cells: &[u32], argument: usize) -> bool
 
 // The newest definition with the name at a length cell: the first that has it in its group.
 #[tactic(auto, using(crate::proofs::Turns::newest_turn, crate::proofs::Turns::newest_done))]
-pub(crate) fn newest(cells: &[u32], heads: &[u32; 64], name: usize) -> usize
+pub(crate) fn newest(cells: &[u32], heads: &[u32; 64], name: usize) -> Option<usize>
     requires { (length cells.now ≤ cells_limit) × (name ≤ 8589934592) }
-    ensures { result ≡ newest cells.now heads.now name }
+    ensures found { result ≡ newest cells.now heads.now name }
+    ensures inside { IfSome result (λ p. p < length cells.now) }
 {
     let count = memory::read(cells, name) as usize;
     let group = index::group(cells, name + 1, count);
     let mut position = layout::position(heads[group]);
     for _ in 0..cells.len() {
         if position >= cells.len() {
-            return Run::NOWHERE;
+            return None;
         }
         if is_named(cells, position, name, count) {
-            return position;
+            return Some(position);
         }
         position = layout::group_link(cells, position) as usize;
     }
-    Run::NOWHERE
+    None
 }
 
 // Whether the definition at a position has the name at a length cell.

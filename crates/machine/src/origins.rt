@@ -36,7 +36,9 @@ impl Run {
         if self.quotes > 0 {
             return false;
         }
-        let byte = (self.body_byte(cells) % 256) as u8;
+        let Some(byte) = self.body_byte(cells) else {
+            return false;
+        };
         scan::sign_of(kinds, byte) == Sign::Tilde
     }
 

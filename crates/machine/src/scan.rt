@@ -25,28 +25,22 @@ impl Run {
         let mut run = self;
         let scans = self.counts.scans + 1;
         run.counts.scans = scans;
-        let next = run.next_byte(text, cells);
-        if next == Run::NOWHERE {
+        let Some(byte) = run.next_byte(text, cells) else {
             return run.end_source(heads, cells);
-        }
-        let byte = (next % 256) as u8;
+        };
         run.passed()
             .scan_byte(sign_of(kinds, byte), byte, heads, cells, output)
     }
 
-    // The next byte of the innermost body, else of the text, or NOWHERE at its end.
-    fn next_byte(self, text: &[u8], cells: &[u32]) -> usize
+    // The next byte of the innermost body, else of the text; none at its end.
+    fn next_byte(self, text: &[u8], cells: &[u32]) -> Option<u8>
         requires { (self.source.body ≤ nowhere) × (self.source.offset ≤ 4294967296) }
         ensures { result ≡ next_byte self text.now cells.now }
     {
         if self.source.list != Run::NOWHERE {
             return self.body_byte(cells);
         }
-        let at = self.counts.read;
-        if at >= text.len() {
-            return Run::NOWHERE;
-        }
-        text[at] as usize
+        text.get(self.counts.read).copied()
     }
 
     // The standing behind that byte.

@@ -1,9 +1,9 @@
 // `$`, `,`, `~` and an unquoted `>`, and the ends of a body and of the text.
-ghost use Rattle.std.specs.Prelude.{◌≡◌, List, ℕ, ◌+◌, ◌≤◌, ◌<◌, length};
-ghost use Rattle.language.specs.Signs.{cells_limit};
+ghost use Rattle.std.specs.Prelude.{◌≡◌, List, ℕ, ◌+◌, ◌≤◌, ◌<◌, length, Some, IfSome};
+ghost use Rattle.language.specs.Signs.{cells_limit, parameter_number};
 ghost use Rattle.language.specs.Expansion.{lent};
 ghost use Rattle.machine.specs.Walks.{nowhere};
-ghost use Rattle.machine.specs.Machine.{Sound, leaves, leaves_indexed, Shifted, shifted, open_at, open_call, end_argument, end_by_comma, separate, body_byte, parameter_number, fetch_in_text, fetch_argument, fetch_number, fetch_in_body, fetch, unquote, end_text, own_call, body_ended, end_body_to, end_body};
+ghost use Rattle.machine.specs.Machine.{Sound, leaves, leaves_indexed, Shifted, shifted, open_at, open_call, end_argument, end_by_comma, separate, body_byte, fetch_in_text, fetch_number, fetch_in_body, fetch, unquote, end_text, own_call, body_ended, end_body_to, end_body};
 
 use crate::run::{Run, Source, Stepped};
 use crate::{index, layout, lookup};
@@ -75,20 +75,21 @@ impl Run {
         self.end_by_comma(cells)
     }
 
-    // The next byte of the body being read, or NOWHERE at its end.
-    pub(crate) fn body_byte(self, cells: &[u32]) -> usize
+    // The next byte of the body being read; none at its end.
+    pub(crate) fn body_byte(self, cells: &[u32]) -> Option<u8>
         requires { (self.source.body ≤ nowhere) × (self.source.offset ≤ 4294967296) }
-        ensures { result ≡ body_byte self cells.now }
+        ensures byte { result ≡ body_byte self cells.now }
+        ensures inside { IfSome result (λ b. self.source.offset < 4294967296) }
     {
         let body = self.source.body;
         let offset = self.source.offset;
         let length = layout::value_length(cells, body) as usize;
         if length <= offset {
-            return Run::NOWHERE;
+            return None;
         }
         let letters = layout::name_length(cells, body) as usize;
         let byte = memory::read(cells, body + layout::HEAD_SIZE + letters + offset);
-        (byte % 256) as usize
+        Some((byte % 256) as u8)
     }
 
     // `~` in the text is copied where no call is open.
@@ -102,14 +103,15 @@ impl Run {
         self.ends_with(Outcome::ParameterInText)
     }
 
-    // The parameter whose length cell is at a position.
-    fn fetch_argument(self, position: usize, cells: &mut [u32], output: &mut [u8]) -> Stepped
-        requires { (Sound (length cells.old) self) × (self.counts.written ≤ length output.old) × (self.source.offset < 4294967296) × (position ≤ 8589934592) }
-        ensures { leaves result (lent cells.new output.new) ≡ fetch_argument self position (lent cells.old output.old) }
+    // The parameter with a number.
+    fn fetch_number(self, number: usize, cells: &mut [u32], output: &mut [u8]) -> Stepped
+        requires { (Sound (length cells.old) self) × (self.counts.written ≤ length output.old) × (self.source.offset < 4294967296) × (number ≤ nowhere) }
+        ensures { leaves result (lent cells.new output.new) ≡ fetch_number self (Some number) (lent cells.old output.old) }
     {
-        if position == Run::NOWHERE {
+        let from = self.source.list + layout::ARGUMENTS;
+        let Some(position) = lookup::argument(cells, from, number) else {
             return self.ends_with(Outcome::NotSupplied);
-        }
+        };
         let count = memory::read(cells, position) as usize;
         let mut run = self;
         let offset = self.source.offset + 1;
@@ -117,27 +119,18 @@ impl Run {
         run.copy(position + 1, count, cells, output)
     }
 
-    fn fetch_number(self, number: usize, cells: &mut [u32], output: &mut [u8]) -> Stepped
-        requires { (Sound (length cells.old) self) × (self.counts.written ≤ length output.old) × (self.source.offset < 4294967296) × (number ≤ nowhere) }
-        ensures { leaves result (lent cells.new output.new) ≡ fetch_number self number (lent cells.old output.old) }
-    {
-        if number == Run::NOWHERE {
-            return self.ends_with(Outcome::FetchesNothing);
-        }
-        let position = lookup::argument(cells, self.source.list + layout::ARGUMENTS, number);
-        self.fetch_argument(position, cells, output)
-    }
-
     // `~` in a body, with its digit or letter.
     fn fetch_in_body(self, cells: &mut [u32], output: &mut [u8]) -> Stepped
         requires { Sound (length cells.old) self × (self.counts.written ≤ length output.old) }
         ensures { leaves result (lent cells.new output.new) ≡ fetch_in_body self (lent cells.old output.old) }
     {
-        let byte = self.body_byte(cells);
-        if byte == Run::NOWHERE {
+        let Some(byte) = self.body_byte(cells) else {
             return self.ends_with(Outcome::FetchesNothing);
-        }
-        self.fetch_number(parameter_number(byte), cells, output)
+        };
+        let Some(number) = parameter_number(byte) else {
+            return self.ends_with(Outcome::FetchesNothing);
+        };
+        self.fetch_number(number, cells, output)
     }
 
     pub(crate) fn fetch(self, byte: u8, cells: &mut [u32], output: &mut [u8]) -> Stepped
@@ -283,20 +276,21 @@ fn shift(
 
 // The parameter that the byte after `~` stands for: 0 to 9 for a digit, 10 to 35 for a letter `a` to `z`. Comparisons in a row
 // keep the compiled scan short.
-fn parameter_number(byte: usize) -> usize
-    ensures { (result ≡ parameter_number byte) × (result ≤ nowhere) }
+fn parameter_number(byte: u8) -> Option<usize>
+    ensures number { result ≡ parameter_number byte }
+    ensures below { IfSome result (λ k. k ≤ nowhere) }
 {
-    if byte < 48 {
-        return Run::NOWHERE;
+    if byte < b'0' {
+        return None;
     }
-    if byte <= 57 {
-        return byte - 48;
+    if byte <= b'9' {
+        return Some(usize::from(byte - b'0'));
     }
-    if byte < 97 {
-        return Run::NOWHERE;
+    if byte < b'a' {
+        return None;
     }
-    if byte > 122 {
-        return Run::NOWHERE;
+    if byte > b'z' {
+        return None;
     }
-    byte - 97 + 10
+    Some(usize::from(byte - b'a') + 10)
 }

@@ -1,5 +1,5 @@
 -- The counted scan is the end of its source, or it is that of the next byte behind which the run then stands.
-use mathlib.Core.Path.{◌∙◌, sym}
+use mathlib.Core.Path.{sym, ◌∙◌}
 use native.Mathlib.Omega.{arith}
 use lib.ListN.{length}
 use borrow.Author.Rules.{rules}
@@ -7,23 +7,21 @@ use Rattle.machine.specs.Machine.{Sound, scanned}
 use Rattle.machine.proofs.Scans.{at_end, before, before_end, passed_sound, passed-written}
 use Rattle.machine.proofs.run.Run.step.Goals as goal
 
-pub returns-then-next-eq-NOWHERE : goal.returns-then-next-eq-NOWHERE
-returns-then-next-eq-NOWHERE c =
+pub returns-in_default : goal.returns-in_default
+returns-in_default c =
     let a = c.args in
-    c.end_source.ensures _
-    ∙ at_end a.self a.kinds.now a.text.now a.heads.now a.cells.now a.output.now (λ i. (c.type_inv.text i).fits)
-    (sym c.next_byte-next.ensures ∙ c.if-next-eq-NOWHERE.true)
+    c.end_source.ensures _ ∙ at_end a.self a.kinds.now a.text.now a.heads.now a.cells.now a.output.now (sym c.in_default.is ∙ c.next_byte.ensures)
 
 pub passed-requires : goal.passed-requires
 passed-requires c =
     let a = c.args in
-    (λ q. omega (arith, before_end (scanned a.self) a.text.now a.cells.now c.next_byte-next.ensures c.if-next-eq-NOWHERE.false q), search rules)
+    (λ q. omega (arith, before_end (scanned a.self) a.text.now a.cells.now c.in-Some.ensures q), search rules)
 
 pub scan_byte-requires : goal.scan_byte-requires
 scan_byte-requires c =
     let a = c.args in
     let s : Sound (length a.cells.now) (scanned a.self) = search rules in (
-      rw c.passed.ensures (passed_sound (scanned a.self) a.text.now a.cells.now c.next_byte-next.ensures c.if-next-eq-NOWHERE.false (λ i. (c.slice_known-1.given i).fits) s),
+      rw c.passed.ensures (passed_sound (scanned a.self) a.text.now a.cells.now c.in-Some.ensures (λ i. (c.slice_known-1.given i).fits) s),
       rw (c.passed.ensures, passed-written (scanned a.self)) (search rules),
     )
 
@@ -32,4 +30,4 @@ returns c =
     let a = c.args in
     c.scan_byte.ensures
     ∙ rw c.passed.ensures
-    (before a.self a.kinds.now a.text.now a.heads.now a.cells.now a.output.now (λ i. (c.type_inv.text i).fits) c.next_byte-next.ensures c.if-next-eq-NOWHERE.false c.sign_of.ensures)
+    (before a.self a.kinds.now a.text.now a.heads.now a.cells.now a.output.now c.in-Some.ensures c.sign_of.ensures)
