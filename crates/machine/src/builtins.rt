@@ -82,8 +82,7 @@ impl Run {
         requires { (length cells.now ≤ cells_limit) × (self.right ≤ cells_limit) × (st.run.right ≤ cells_limit) }
         ensures { (o : List ℕ) → leaves_indexed st (lent cells.now o) heads.new ≡ unindexed self heads.old (leaves st (lent cells.now o)) }
     {
-        let answer = st.answer;
-        let Answer::GoesOn = answer else {
+        let Answer::GoesOn = st.answer else {
             return;
         };
         index::remove(heads, cells, self.right, st.run.right);
@@ -125,16 +124,15 @@ impl Run {
         let list = self.calls.left - self.calls.call + 1;
         let since = to - self.right;
         let left = self.calls.call + kept;
-        let live = self.counts.live - gone;
         let calls = Calls {
             left,
             call: layout::low(around),
             hand: layout::high(around),
         };
         self.calls = calls;
-        self.counts.live = live;
+        self.counts.live -= gone;
         self.right = to;
-        self.charge = self.charge - (list + since);
+        self.charge -= list + since;
         self
     }
 
@@ -150,8 +148,7 @@ impl Run {
         let bytes = memory::read(cells, value) as usize;
         let st = self.release(0, cells);
         self.unindex(st, heads, cells);
-        let answer = st.answer;
-        let Answer::GoesOn = answer else {
+        let Answer::GoesOn = st.answer else {
             return st;
         };
         let run = st.run;
@@ -190,10 +187,9 @@ impl Run {
         requires { (size ≤ self.right) × (self.charge + size < 18446744073709551616) × (self.counts.live < cells_limit) }
         ensures { result ≡ defined self size }
     {
-        let live = self.counts.live + 1;
-        self.counts.live = live;
-        self.right = self.right - size;
-        self.charge = self.charge + size;
+        self.counts.live += 1;
+        self.right -= size;
+        self.charge += size;
         self
     }
 

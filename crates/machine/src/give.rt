@@ -42,8 +42,7 @@ impl Run {
     {
         let bytes = text.as_bytes();
         let st = self.give(bytes.len(), cells, output.len());
-        let answer = st.answer;
-        let Answer::GoesOn = answer else {
+        let Answer::GoesOn = st.answer else {
             return st;
         };
         self.place_text(bytes, cells, output);
@@ -73,8 +72,7 @@ impl Run {
         ensures { leaves result (lent cells.new output.new) ≡ give_block self from count (lent cells.old output.old) }
     {
         let st = self.give(count, cells, output.len());
-        let answer = st.answer;
-        let Answer::GoesOn = answer else {
+        let Answer::GoesOn = st.answer else {
             return st;
         };
         self.place_block(from, count, cells, output);

@@ -80,8 +80,7 @@ fn advance_noting(
         let rule = run.rule(kinds, cells);
         let at_once = at_once(silent, until - run.counts.scans);
         let st = advance(run, at_once, kinds, text, heads, cells, output);
-        let answer = st.answer;
-        let Answer::GoesOn = answer else {
+        let Answer::GoesOn = st.answer else {
             return st;
         };
         run.note(silent, st.run, rule, origins, rules);
@@ -114,8 +113,7 @@ fn advance(
     let mut run = from;
     while run.counts.scans < until {
         let st = run.step(kinds, text, heads, cells, output);
-        let answer = st.answer;
-        let Answer::GoesOn = answer else {
+        let Answer::GoesOn = st.answer else {
             return st;
         };
         run = st.run;

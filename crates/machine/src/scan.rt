@@ -23,8 +23,7 @@ impl Run {
         ensures { leaves_indexed result (lent cells.new output.new) heads.new ≡ step self kinds.now text.now heads.old (lent cells.old output.old) }
     {
         let mut run = self;
-        let scans = self.counts.scans + 1;
-        run.counts.scans = scans;
+        run.counts.scans += 1;
         let Some(byte) = run.next_byte(text, cells) else {
             return run.end_source(heads, cells);
         };
@@ -44,19 +43,16 @@ impl Run {
     }
 
     // The standing behind that byte.
-    fn passed(self) -> Run
+    fn passed(mut self) -> Run
         requires { (self.source.list ≡ nowhere → self.counts.read < 18446744073709551615) × (self.source.offset ≤ 4294967296) }
         ensures { result ≡ passed self }
     {
-        let mut run = self;
         if self.source.list == Run::NOWHERE {
-            let read = self.counts.read + 1;
-            run.counts.read = read;
-            return run;
+            self.counts.read += 1;
+        } else {
+            self.source.offset += 1;
         }
-        let offset = self.source.offset + 1;
-        run.source.offset = offset;
-        run
+        self
     }
 
     // The end of the innermost body, else of the text.

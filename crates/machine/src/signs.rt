@@ -21,9 +21,8 @@ impl Run {
         let at = self.calls.left;
         self.open_at(at, cells);
         let mut run = self.collected(layout::OPEN_SIZE);
-        let hand = at + layout::ARGUMENTS;
         run.calls.call = at;
-        run.calls.hand = hand;
+        run.calls.hand = at + layout::ARGUMENTS;
         run.goes_on()
     }
 
@@ -59,8 +58,7 @@ impl Run {
         }
         self.end_argument(cells);
         let mut run = self.collected(1);
-        let hand = self.calls.left;
-        run.calls.hand = hand;
+        run.calls.hand = self.calls.left;
         run.goes_on()
     }
 
@@ -114,8 +112,7 @@ impl Run {
         };
         let count = memory::read(cells, position) as usize;
         let mut run = self;
-        let offset = self.source.offset + 1;
-        run.source.offset = offset;
+        run.source.offset += 1;
         run.copy(position + 1, count, cells, output)
     }
 
@@ -238,17 +235,16 @@ impl Run {
         ensures { result ≡ body_ended self to links reader gone }
     {
         let went = to - self.source.list;
-        let live = self.counts.live - gone;
         let source = Source {
             list: layout::low(links),
             body: layout::high(reader),
             offset: layout::low(reader),
         };
         self.source = source;
-        self.counts.live = live;
-        self.right = self.right + went;
+        self.counts.live -= gone;
+        self.right += went;
         self.quotes = 0;
-        self.charge = self.charge - went;
+        self.charge -= went;
         self
     }
 }
