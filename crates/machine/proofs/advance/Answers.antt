@@ -6,14 +6,6 @@ use Rattle.machine.proofs.Leaves.{not_on}
 use Rattle.machine.proofs.Advancing.{begins, ready_of, once_more, again, ends, done}
 use Rattle.machine.proofs.advance.Goals as goal
 
-pub loop-run-init : goal.loop-run-init
-loop-run-init c =
-    begins _ _ _ _ c.args.from c.args.heads.now (lent c.args.cells.now c.args.output.now) c.args.due refl refl (λ i. (c.type_inv.cells i).fits) c.requires.0 c.requires.1
-
-pub step-st-requires : goal.step-st-requires
-step-st-requires c =
-    ready_of _ _ _ _ c.loop-run.invariant c.loop-run-test.true
-
 pub returns-in_default : goal.returns-in_default
 returns-in_default c =
     let g = c.loop-run.invariant in

@@ -20,32 +20,6 @@ loop-run-init c =
       λ e. refl,
     )
 
-pub rule-rule-requires : goal.rule-rule-requires
-rule-rule-requires c =
-    let h = c.loop-run.invariant.0.in_range.ready in
-    (h.call_below, h.body_below, h.offset_below)
-
-pub advance-st-requires : goal.advance-st-requires
-advance-st-requires c =
-    let left = c.args.from.counts.scans + c.args.due - c.loop-run.run.counts.scans in
-    rw c.at_once-at_once.ensures (several_ready _ _ _ _ c.loop-run.invariant.0 _ (at_once_few c.too_short-silent.result left (omega (arith, c.loop-run-test.true))).0 c.loop-run-test.true)
-
-pub shape_of-cells-in_default : goal.shape_of-cells-in_default
-shape_of-cells-in_default c =
-    omega (arith, c.cells-1.given, c.loop-run.invariant.0.cells)
-
-pub shape_of-output-in_default : goal.shape_of-output-in_default
-shape_of-output-in_default c =
-    omega (arith, c.output-1.given, c.loop-run.invariant.0.output)
-
-pub shape_of-origins-in_default : goal.shape_of-origins-in_default
-shape_of-origins-in_default c =
-    c.loop-run.invariant.2
-
-pub shape_of-rules-in_default : goal.shape_of-rules-in_default
-shape_of-rules-in_default c =
-    c.loop-run.invariant.3
-
 pub returns-in_default : goal.returns-in_default
 returns-in_default c =
     let quiet = c.too_short-silent.result in
@@ -59,13 +33,6 @@ returns-in_default c =
       noted_over _ _ _ _ _ _ _ l.1 quiet l.4 left c.loop-run-test.true _ (rw at at c.advance-st.ensures.1) out,
       l.5,
     )
-
-pub loop-run-smaller : goal.loop-run-smaller
-loop-run-smaller c =
-    let quiet = c.too_short-silent.result in
-    let left = c.args.from.counts.scans + c.args.due - c.loop-run.run.counts.scans in
-    let made = rw c.at_once-at_once.ensures at (c.advance-st.ensures.2 c.in-GoesOn.is) in
-    omega (arith, made, c.loop-run-test.true, (at_once_few quiet left (omega (arith, c.loop-run-test.true))).1)
 
 pub loop-run-preserved : goal.loop-run-preserved
 loop-run-preserved c =

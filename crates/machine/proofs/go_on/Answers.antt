@@ -16,10 +16,3 @@ returns-then-is_in_range c =
       record { refused = λ e. absurd (true≢false (sym yes ∙ e)); advanced = λ e. rw p at a.0 },
       record { refused = λ e. absurd (true≢false (sym yes ∙ e)); kept = a.2; noted = λ e. rw p at a.1 },
     )
-
-pub returns : goal.returns
-returns c =
-    let no = sym c.is_in_range.ensures ∙ c.if-is_in_range.false in (
-      record { refused = λ e. (refl, refl, refl); advanced = λ e. absurd (true≢false (sym e ∙ no)) },
-      record { refused = λ e. refl; kept = λ e. refl; noted = λ e. absurd (true≢false (sym e ∙ no)) },
-    )

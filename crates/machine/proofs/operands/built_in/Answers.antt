@@ -34,10 +34,6 @@ unfolding of_group sum
 returns-in-3 c =
     of_its_group c.args.cells.now c.args.name 3 c.read-count.ensures c.group-group.ensures.0 c.in-3.is c.known.ensures
 
-pub returns-in-15 : goal.returns-in-15
-returns-in-15 c =
-    of_its_group c.args.cells.now c.args.name 15 c.read-count.ensures c.group-group.ensures.0 c.in-15.is c.of_group_15.ensures
-
 pub returns-in-35 : goal.returns-in-35
 unfolding of_group sum
 returns-in-35 c =
@@ -47,10 +43,6 @@ pub returns-in-36 : goal.returns-in-36
 unfolding of_group sum
 returns-in-36 c =
     of_its_group c.args.cells.now c.args.name 36 c.read-count.ensures c.group-group.ensures.0 c.in-36.is c.known-in-36.ensures
-
-pub returns-in-41 : goal.returns-in-41
-returns-in-41 c =
-    of_its_group c.args.cells.now c.args.name 41 c.read-count.ensures c.group-group.ensures.0 c.in-41.is c.of_group_41.ensures
 
 pub returns-in-42 : goal.returns-in-42
 unfolding of_group sum

@@ -7,11 +7,6 @@ use Rattle.machine.specs.Machine.{After}
 use Rattle.machine.proofs.Leaves.{ended, nameless, not_defined, defines, roomy, release_right}
 use Rattle.machine.proofs.run.Run.def.Goals as goal
 
-pub returns-then-letters-eq0 : goal.returns-then-letters-eq0
-returns-then-letters-eq0 c =
-    let a = c.args in
-    λ o. nameless a.self a.name a.value a.heads.now (lent a.cells.now o) c.read-letters.ensures c.if-letters-eq0.true (rw c.ends_with.ensures)
-
 pub unindex-requires : goal.unindex-requires
 unindex-requires c =
     let small = release_right c.args.self (lent c.args.cells.now []) (omega arith) (omega arith) in

@@ -3,11 +3,5 @@ use native.Mathlib.Omega.{arith}
 use borrow.Author.Tests.{lt-ltb, le-ltb}
 use Rattle.machine.proofs.run.Run.give_out.Goals as goal
 
-pub returns-then-output-self : goal.returns-then-output-self
-returns-then-output-self c = λ o e. rw (e, lt-ltb _ _ c.if-output-self.true, c.ends_with.ensures)
-
-pub release-requires : goal.release-requires
-release-requires c = rw c.wrote.ensures (omega arith)
-
 pub returns : goal.returns
 returns c = λ o e. rw (e, le-ltb _ _ c.if-output-self.false, c.release.ensures o, c.wrote.ensures)

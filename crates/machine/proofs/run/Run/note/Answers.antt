@@ -7,13 +7,6 @@ use Rattle.language.specs.Origins.{rule_number}
 use Rattle.machine.specs.Walks.{cell}
 use Rattle.machine.proofs.run.Run.note.Goals as goal
 
-pub returns-then-silent : goal.returns-then-silent
-returns-then-silent c = rw c.if-silent.true
-
-pub returns-then-end-from : goal.returns-then-end-from
-returns-then-end-from c =
-    rw (c.if-silent.false, c.fill.ensures, c.fill-then-end-from.ensures, c.cell.ensures, c.from.ensures)
-
 pub returns-else-end-from : goal.returns-else-end-from
 returns-else-end-from c =
     let a = c.args in

@@ -31,9 +31,6 @@ carried c =
       | in-Lock w ↦ carries w.cells-is w.output-is w.st-is w.lock-st.auto.cells refl (w.lock-st.ensures _) (lock_right r m inside size q h) (rw w.in-Lock.is)
     ]
 
-pub returns-in-Def : goal.returns-in-Def
-returns-in-Def c = rw (c.in-Def.is, ← c.behind-first.ensures.0) (c.def.ensures _)
-
 pub unindex-requires : goal.unindex-requires
 unindex-requires c = let k = carried c in omega arith
 

@@ -12,19 +12,6 @@ returns-in_default c =
     let a = c.args in
     c.end_source.ensures _ ∙ at_end a.self a.kinds.now a.text.now a.heads.now a.cells.now a.output.now (sym c.in_default.is ∙ c.next_byte.ensures)
 
-pub passed-requires : goal.passed-requires
-passed-requires c =
-    let a = c.args in
-    (λ q. omega (arith, before_end (scanned a.self) a.text.now a.cells.now c.in-Some.ensures q), search rules)
-
-pub scan_byte-requires : goal.scan_byte-requires
-scan_byte-requires c =
-    let a = c.args in
-    let s : Sound (length a.cells.now) (scanned a.self) = search rules in (
-      rw c.passed.ensures (passed_sound (scanned a.self) a.text.now a.cells.now c.in-Some.ensures (λ i. (c.slice_known-1.given i).fits) s),
-      rw (c.passed.ensures, passed-written (scanned a.self)) (search rules),
-    )
-
 pub returns : goal.returns
 returns c =
     let a = c.args in
