@@ -1,13 +1,8 @@
--- The pair at the present argument is chosen or passed by.
+-- A pair that is not chosen is passed by.
 use Rattle.std.proofs.Common.{arith}
 use Rattle.std.proofs.lemmas.Grind.{common_steps}
 use Rattle.machine.proofs.Turns.{chosen_turn}
 use Rattle.machine.proofs.lookup.chosen.Goals as goal
-
-pub returns-then-is_one : goal.returns-then-is_one
-returns-then-is_one c =
-    let turn = chosen_turn c.args.cells.now c.loop.position _ _ c.loop-test.true in
-    grind (arith, common_steps, turn)
 
 pub loop-preserved : goal.loop-preserved
 loop-preserved c =
