@@ -74,7 +74,7 @@ first_of l p a args rest e =
       behind = drop_past l (length a ∷ a) more p (length a + 1) s (omega arith);
     }
 
--- and it is found there
+-- argument k is found, at this length cell
 pub record Supplied (l : List ℕ) (p : ℕ) (args : List Bytes) (k : ℕ) : Type 0 where
   pub at : ℕ
   pub found : argument l p k ≡ Some at

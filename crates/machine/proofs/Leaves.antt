@@ -14,8 +14,6 @@ use denote.Enum.Declared.{tag_of}
 use Rattle.std.specs.Prelude.{Option, None, Some, IfSome, Result, Ok, Err}
 use Rattle.decimal.specs.declared.operations.Refusal.{Refusal}
 use Rattle.language.specs.declared.built_ins.BuiltIn.{BuiltIn}
-use Rattle.language.specs.declared.built_ins.BuiltIn.TheVariants.{Def, Val, Update, Arithmetic, Seq, Size, If, Lock}
-use Rattle.language.specs.BuiltIns.{needs}
 use Rattle.language.specs.Expansion.{Lent, lent}
 use Rattle.machine.specs.declared.run.Run.{Run}
 use Rattle.machine.specs.declared.run.Answer.{Answer}
@@ -61,17 +59,6 @@ defines r name value h m n z v e u g d = d ∙ rw (u, ← n, v, ne_eqb _ _ z, �
 -- what is placed is placed where the run goes on
 pub placed_on : {a b : After} (m : Lent) → a ≡ b → a.answer ≡ GoesOn → record { run = a.run; answer = a.answer; lent = m } ≡ placing b m
 placed_on m e h = rw (← e, h)
-
--- a built-in needs few parameters
-pub few : (b : BuiltIn) → needs b ≤ 2
-few Def = omega arith
-few Val = omega arith
-few Update = omega arith
-few (Arithmetic op) = omega arith
-few Seq = omega arith
-few Size = omega arith
-few If = omega arith
-few Lock = omega arith
 
 -- a standing in which a definition can be put
 pub record Roomy (r : Run) : Type 0 where

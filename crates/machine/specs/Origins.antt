@@ -46,6 +46,7 @@ is_tilde Tilde = true
 is_tilde Quote = false
 is_tilde Unquote = false
 
+-- whether a byte is a `~`, if there is one
 abbrev pub tilde_next : List ℕ → Option ℕ → Bool
 tilde_next kinds None = false
 tilde_next kinds (Some b) = is_tilde (sign_of kinds b)

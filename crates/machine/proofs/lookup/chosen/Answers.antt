@@ -1,4 +1,4 @@
--- The pair at the present argument is chosen or passed by.
+-- A pair that is not chosen is passed by.
 use Rattle.std.proofs.Common.{arith}
 use Rattle.std.proofs.lemmas.Grind.{common_steps}
 use Rattle.machine.proofs.Turns.{chosen_turn}
