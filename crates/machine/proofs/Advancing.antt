@@ -168,13 +168,6 @@ module _ (T : Table) (text : Bytes) (n k : ℕ) where
         (λ q. kept.told (sym told ∙ q)) (λ q. absurd (out (sym told ∙ q))) in
         (is₁, is₂, λ q. absurd (out (sym told ∙ q)))
 
-  -- a scan can be made
-  pub ready_of : {r₀ r : Run} {h₀ h : List ℕ} {m₀ m : Lent} {due₀ until : ℕ} → Going r₀ h₀ m₀ due₀ r h m until → r.counts.scans < until
-      → Ready (length m.cells) r × (r.counts.scans < last_scan) × (r.counts.written ≤ length m.output)
-  ready_of {r = r} g some =
-      let i = g.in_range in
-      (subst (λ (j : ℕ). Ready j r) (sym g.cells) i.ready, omega (arith, g.counted), omega (arith, i.written, g.output))
-
   -- the last scan that was due is made
   pub done : {r₀ r : Run} {h₀ h : List ℕ} {m₀ m : Lent} {due₀ until : ℕ} → Going r₀ h₀ m₀ due₀ r h m until → until ≤ r.counts.scans → length m₀.cells ≡ n → length m₀.output ≡ k
       → Advances T text due₀ r₀ h₀ m₀ (record { run = r; answer = GoesOn }) h m × (M.keeping h (M.goes r m) ≡ M.steps due₀ T text (M.keeping h₀ (M.goes r₀ m₀)))

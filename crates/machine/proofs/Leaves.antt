@@ -1,5 +1,5 @@
 -- What follows of what a function leaves from the equation that says it, and how far a found definition lies.
-use Prim.Native.Nat.{ℕ, zero, suc, ◌+◌, ◌-◌, ◌≤◌, ◌<◌}
+use Prim.Native.Nat.{ℕ, zero, suc, ◌-◌, ◌≤◌, ◌<◌}
 use native.Mathlib.Omega.{arith}
 use mathlib.Core.Path.{◌≡◌, refl, sym, ap, ◌∙◌}
 use mathlib.Core.Logic.{inl, inr}
@@ -19,8 +19,8 @@ use Rattle.machine.specs.declared.run.Run.{Run}
 use Rattle.machine.specs.declared.run.Answer.{Answer}
 use Rattle.machine.specs.declared.run.Answer.TheVariants.{GoesOn, Ended, Damaged, Refused}
 use Rattle.machine.specs.declared.run.Stepped.{Stepped}
-use Rattle.machine.specs.Walks.{name_group, group_link, is_named, newest_from, newest, is_locked, room, right_before, list_link, return_link, high, list_overhead, definitions, is_read, chosen, built_in_named}
-use Rattle.machine.specs.Machine.{After, Indexed, keeping, unindexed, Resulting, goes, ends, damaged, goes_on, placing, released, release_to, release, define_in, def, leaves, own_call, end_body_to, end_body, charged, wrote, is_outer, give, refuse_named, given, val_at, val, update_at, update, choose, lock_in, lock, choose_at, give_answer, give_count, perform}
+use Rattle.machine.specs.Walks.{name_group, group_link, is_named, newest_from, newest, is_locked, room, right_before, return_link, definitions, is_read, chosen, built_in_named}
+use Rattle.machine.specs.Machine.{After, Indexed, keeping, unindexed, Resulting, goes, ends, damaged, goes_on, placing, released, release_to, release, define_in, def, leaves, charged, wrote, is_outer, give, refuse_named, given, val_at, val, update_at, update, choose, lock_in, lock, choose_at, give_answer, give_count, perform}
 use Rattle.machine.specs.contracts.run.Answer.{the_type}
 use Rattle.language.specs.declared.outcomes.Outcome.TheVariants.{EmptyName}
 
@@ -55,10 +55,6 @@ pub defines : (r : Run) (name value : ℕ) (h : List ℕ) (m : Lent) {a : After}
     → (letters ≡ 0 → ⊥) → bytes ≡ get_or m.cells value 0 → a ≡ release r 0 m → x ≡ unindexed r h a → a.answer ≡ GoesOn
     → y ≡ define_in a.run name value letters bytes x.heads m → y ≡ def r name value h m
 defines r name value h m n z v e u g d = d ∙ rw (u, ← n, v, ne_eqb _ _ z, ← e, g)
-
--- what is placed is placed where the run goes on
-pub placed_on : {a b : After} (m : Lent) → a ≡ b → a.answer ≡ GoesOn → record { run = a.run; answer = a.answer; lent = m } ≡ placing b m
-placed_on m e h = rw (← e, h)
 
 -- a standing in which a definition can be put
 pub record Roomy (r : Run) : Type 0 where
@@ -97,21 +93,6 @@ walk_below (suc t) l p name count = go (leb (length l) p) refl (is_named l p nam
 
 pub found_below : (l h : List ℕ) (name : ℕ) → IfSome (newest l h name) (λ d. d < length l)
 found_below l h name = walk_below (length l) l (get_or h (name_group l name) 0) name (get_or l name 0)
-
--- the end of a body hands on what the cells of its list say
-pub hands_on : (r : Run) (h : List ℕ) (m : Lent) {x : Indexed} {own : Bool} {to links reader size gone : ℕ} → own ≡ own_call r m.cells → own ≡ false
-    → to ≡ right_before m.cells r.source.list → links ≡ list_link m.cells r.source.list → reader ≡ return_link m.cells r.source.list
-    → size ≡ high links → gone ≡ definitions m.cells (r.source.list + size + list_overhead) to → x ≡ end_body_to r to links reader gone h m → x ≡ end_body r h m
-hands_on r h m own not t k b s g e =
-    e
-    ∙ alike (λ (to links reader gone : ℕ). end_body_to r to links reader gone h m) t k b (g ∙ rw (s, t, k))
-    ∙ second _ _ (sym own ∙ not)
-  where
-    alike : (f : ℕ → ℕ → ℕ → ℕ → Indexed) {a b c d a' b' c' d' : ℕ} → a ≡ a' → b ≡ b' → c ≡ c' → d ≡ d' → f a b c d ≡ f a' b' c' d'
-    alike f e₁ e₂ e₃ e₄ = rw (e₁, e₂, e₃, e₄)
-
-    second : (x y : Indexed) {b : Bool} → b ≡ false → y ≡ cond b x y
-    second x y e = rw e
 
 -- what a function leaves, the definitions of which stand within the largest run of cells
 record Within (a : After) : Type 0 where

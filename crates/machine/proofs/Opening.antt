@@ -28,7 +28,7 @@ use Rattle.machine.proofs.Represents.{Simulates, goes, charge_is}
 use Rattle.machine.proofs.Putting.{refusal, charging, charging_one, put_byte, placed_low, placed_high, placed_size, room_is, call_is}
 use Rattle.machine.specs.Items.{Item, defined, width, encode, encode_arguments, definitions_of, count, encode_call}
 use Rattle.machine.specs.Frames.{Places, Frame, made, collects, reads, address, opening, list_item, laid, items, places, lefts, calls, bodies, Valid}
-use Rattle.machine.specs.Held.{Represents, places_of}
+use Rattle.machine.specs.Held.{Represents}
 use Rattle.machine.proofs.Lists.{cell_is, set-placed}
 use Rattle.language.specs.declared.outcomes.Outcome.TheVariants.{Finished, FinishedAtQuote, ParameterInText, QuoteInCall, TextInCall, TextInQuotes}
 
@@ -139,9 +139,6 @@ module _ {n : ℕ} {older : List Definition} {heads whole start : List ℕ} {r :
 
   right_is : r.right ≡ address n (items n b fs)
   right_is = omega (arith, h.lies.stands.right)
-
-  place_is : {x : ℕ} (f : Places → ℕ) → f (places_of r) ≡ x → f (places n b fs) ≡ x
-  place_is f e = ap f (sym h.places_are) ∙ e
 
   width_below : width (items n b fs) ≤ n
   width_below = omega (arith, h.lies.stands.right)

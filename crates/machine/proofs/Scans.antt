@@ -6,7 +6,7 @@ use mathlib.Core.Bool.{Bool, true, false, cond}
 use mathlib.Core.List.{List}
 use Rattle.std.specs.Prelude.{Option, None, Some}
 use Rattle.std.proofs.lemmas.Option.{none-some}
-use borrow.Author.Tests.{eq-eqb, leb-false}
+use borrow.Author.Tests.{leb-false}
 use lib.ListN.{length, get_or}
 use lib.Dec.{eqb, leb}
 use Rattle.language.specs.declared.signs.Sign.{Sign}
@@ -20,10 +20,6 @@ use Rattle.machine.specs.declared.run.Run.{Run}
 failed : (t : Bool) (x : ℕ) {b : ℕ} → Some b ≡ cond t None (Some x) → t ≡ false
 failed true x e = absurd (none-some _ (sym e))
 failed false x e = refl
-
--- a byte of the text stands before its end
-pub before_end : (r : Run) (text l : List ℕ) {b : ℕ} → Some b ≡ next_byte r text l → r.source.list ≡ nowhere → r.counts.read < length text
-before_end r text l e q = let z = rw (eq-eqb _ _ q) at e in leb-false _ _ (failed _ _ z)
 
 -- and one of a body before the end of that
 pub inside : (r : Run) (l : List ℕ) {b : ℕ} → Some b ≡ body_byte r l → r.source.offset < value_length l r.source.body
@@ -104,10 +100,3 @@ passed_sound {n} r text l {b} e cells s = go (eqb r.source.list nowhere) e
       quotes_below = s.quotes_below;
       live_below = s.live_below;
     }
-
-pub passed-written : (r : Run) → (passed r).counts.written ≡ r.counts.written
-passed-written r = go (eqb r.source.list nowhere)
-  where
-    go : (t : Bool) → (cond t (with_read (r.counts.read + 1) r) (with_offset (r.source.offset + 1) r)).counts.written ≡ r.counts.written
-    go true = refl
-    go false = refl

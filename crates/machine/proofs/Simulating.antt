@@ -41,9 +41,6 @@ use Rattle.language.specs.declared.outcomes.Outcome.TheVariants.{AppliesNothing,
 noted : {s : State} (m : ℕ) → HoldsOctets s → HoldsOctets (S.noting m s)
 noted m h = record { text = h.text; calls = h.calls; bodies = h.bodies; definitions = h.definitions; output = h.output }
 
-scanned_octets : {s : State} → HoldsOctets s → HoldsOctets (S.counting 0 s)
-scanned_octets h = record { text = h.text; calls = h.calls; bodies = h.bodies; definitions = h.definitions; output = h.output }
-
 pub first_octet : {x : ℕ} {t : Bytes} → Octets (x ∷ t) → x < 256
 first_octet (with x h) = x
 

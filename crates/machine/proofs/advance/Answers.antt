@@ -1,9 +1,8 @@
 -- Between two scans what is due leads where all leads. The measure is what is due.
 use mathlib.Core.Path.{refl}
 use native.Mathlib.Omega.{arith}
-use Rattle.language.specs.Expansion.{lent}
 use Rattle.machine.proofs.Leaves.{not_on}
-use Rattle.machine.proofs.Advancing.{begins, ready_of, once_more, again, ends, done}
+use Rattle.machine.proofs.Advancing.{once_more, again, ends, done}
 use Rattle.machine.proofs.advance.Goals as goal
 
 pub returns-in_default : goal.returns-in_default

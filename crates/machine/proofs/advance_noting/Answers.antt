@@ -5,7 +5,7 @@ use native.Mathlib.Omega.{arith}
 use Rattle.language.specs.Expansion.{lent}
 use Rattle.language.specs.Origins.{numbers}
 use Rattle.machine.proofs.Leaves.{not_on}
-use Rattle.machine.proofs.Advancing.{begins, several_ready, more, over, done}
+use Rattle.machine.proofs.Advancing.{begins, more, over, done}
 use Rattle.machine.proofs.Noting.{notable, at_once_few, noted_on, noted_over, kept_on, noted_done}
 use Rattle.machine.proofs.advance_noting.Goals as goal
 

@@ -1,5 +1,5 @@
 -- What is in range moves on by its portion and notes what it writes, and what is out of range is refused.
-use mathlib.Core.Path.{refl, sym, ◌∙◌}
+use mathlib.Core.Path.{sym, ◌∙◌}
 use mathlib.Core.Bool.{true≢false}
 use Rattle.machine.proofs.Advancing.{in_range_lem}
 use Rattle.machine.proofs.go_on.Goals as goal

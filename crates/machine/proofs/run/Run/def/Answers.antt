@@ -4,7 +4,7 @@ use mathlib.Core.List.{[]}
 use native.Mathlib.Omega.{arith}
 use Rattle.language.specs.Expansion.{lent}
 use Rattle.machine.specs.Machine.{After}
-use Rattle.machine.proofs.Leaves.{ended, nameless, not_defined, defines, roomy, release_right}
+use Rattle.machine.proofs.Leaves.{ended, not_defined, defines, roomy, release_right}
 use Rattle.machine.proofs.run.Run.def.Goals as goal
 
 pub unindex-requires : goal.unindex-requires

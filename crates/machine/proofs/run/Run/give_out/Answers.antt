@@ -1,6 +1,5 @@
 -- What the output has no room for is refused.
-use native.Mathlib.Omega.{arith}
-use borrow.Author.Tests.{lt-ltb, le-ltb}
+use borrow.Author.Tests.{le-ltb}
 use Rattle.machine.proofs.run.Run.give_out.Goals as goal
 
 pub returns : goal.returns

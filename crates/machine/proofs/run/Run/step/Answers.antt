@@ -1,10 +1,6 @@
 -- The counted scan is the end of its source, or it is that of the next byte behind which the run then stands.
 use mathlib.Core.Path.{sym, ◌∙◌}
-use native.Mathlib.Omega.{arith}
-use lib.ListN.{length}
-use borrow.Author.Rules.{rules}
-use Rattle.machine.specs.Machine.{Sound, scanned}
-use Rattle.machine.proofs.Scans.{at_end, before, before_end, passed_sound, passed-written}
+use Rattle.machine.proofs.Scans.{at_end, before}
 use Rattle.machine.proofs.run.Run.step.Goals as goal
 
 pub returns-in_default : goal.returns-in_default
