@@ -3,10 +3,10 @@ use Prim.Native.Nat.{ℕ, zero, suc, ◌-◌, ◌≤◌, ◌<◌}
 use mathlib.Core.Path.{◌≡◌, refl, sym, ◌∙◌}
 use mathlib.Core.Bool.{Bool, true, false, ◌&&◌}
 use native.Mathlib.Omega.{arith}
-use borrow.Author.Tests.{le-leb, lt-leb, leb-true, leb-false, ltb-false}
+use borrow.Author.Tests.{le-leb, lt-leb, leb-true, leb-false}
 use lib.Dec.{T, leb}
 use lib.IntN.{ℤ, pos, negsuc, neg_ℤ}
-use lib.Signed.{mag, lt_z}
+use lib.Signed.{mag}
 use mir.Syntax.{w32}
 use mir.Val.{SFits}
 use Rattle.decimal.specs.Operand.{in_range}
@@ -49,8 +49,3 @@ range_fits z h = let k : mag z ≤ 2147483647 = leb-true (mag z) 2147483647 (sym
 pub mag_negated : (n : ℕ) → mag (neg_ℤ (pos n)) ≡ n - 1
 mag_negated zero = refl
 mag_negated (suc n) = omega arith
-
--- where both fail the number is in range
-pub within_range : (z : ℤ) → lt_z z (negsuc 2147483647) ≡ false → lt_z (pos 2147483647) z ≡ false → in_range z ≡ true
-within_range (pos n) e f = in_range_lem (pos n) (omega (arith, ltb-false 2147483647 n f))
-within_range (negsuc n) e f = in_range_lem (negsuc n) (omega (arith, ltb-false 2147483647 n e))

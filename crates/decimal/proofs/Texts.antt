@@ -36,13 +36,6 @@ filled_text zero (b ∷ t) h = absurd (omega arith)
 filled_text (suc n) [] h = refl
 filled_text (suc n) (b ∷ t) h = ap (◌∷◌ b) (filled_text n t (omega arith))
 
--- and are as many as it is filled up to
-pub filled-length : (n : ℕ) (t : List ℕ) → length (filled n t) ≡ n
-unfolding filled
-filled-length zero t = refl
-filled-length (suc n) [] = ap suc (filled-length n [])
-filled-length (suc n) (b ∷ t) = ap suc (filled-length n t)
-
 -- a decimal of a text holds all of it
 pub text_of_decimal : (t : List ℕ) → length t ≤ 11 → text_in (decimal_of t) ≡ t
 text_of_decimal t h = filled_text 11 t h

@@ -26,9 +26,6 @@ kinds_of-kinds-requires c =
     let g = given_with (given a.signs.now a.text.now (lent a.cells.now a.output.now) a.allowance) (numbers a.origins.now a.rules.now) in
     signs_fit g.given (sym (rw c.sizes_of.ensures at c.on_lent.ensures) ∙ ap refusal_in c.in_default.is)
 
-pub expand_accepted-requires : goal.expand_accepted-requires
-expand_accepted-requires c = rw c.kinds_of-kinds.ensures (sym (rw c.sizes_of.ensures at c.on_lent.ensures) ∙ ap refusal_in c.in_default.is)
-
 pub returns : goal.returns
 returns c =
     let a = c.args in

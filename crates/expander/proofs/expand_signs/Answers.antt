@@ -17,10 +17,6 @@ kinds_of-requires c =
     let g = given a.signs.now a.text.now (lent a.cells.now a.output.now) a.allowance in
     signs_fit g (sym (rw c.sizes_of.ensures at c.on_lent.ensures) ∙ ap refusal_in c.in-Ok.is)
 
-pub expand_unnoted-requires : goal.expand_unnoted-requires
-expand_unnoted-requires c =
-    rw c.kinds_of.ensures (sym (rw c.sizes_of.ensures at c.on_lent.ensures) ∙ ap refusal_in c.in-Ok.is)
-
 pub returns-in-Ok : goal.returns-in-Ok
 returns-in-Ok c =
     let a = c.args in
