@@ -94,7 +94,7 @@ impl Run {
         ensures { (o : List ℕ) → leaves result (lent cells.now o) ≡ release self kept (lent cells.now o) }
     {
         let call = self.calls.call;
-        let to = layout::right_before(cells, call) as usize;
+        let to = layout::right_before(cells, call);
         let around = layout::return_link(cells, call);
         let gone = lookup::definitions(cells, self.right, to);
         self.release_to(kept, to, around, gone, cells.len())
@@ -201,8 +201,8 @@ impl Run {
         let Some(found) = lookup::newest(cells, heads, name) else {
             return self.refuse_name(name, cells);
         };
-        let count = layout::value_length(cells, found) as usize;
-        let letters = layout::name_length(cells, found) as usize;
+        let count = layout::value_length(cells, found);
+        let letters = layout::name_length(cells, found);
         self.give_block(found + layout::HEAD_SIZE + letters, count, cells, output)
     }
 
@@ -239,10 +239,10 @@ impl Run {
         ensures { (o : List ℕ) → leaves result (lent cells.new o) ≡ update_in self value found (lent cells.old o) }
     {
         let count = memory::read(cells, value);
-        if layout::room(cells, found) < count {
+        if layout::room(cells, found) < count as usize {
             return self.ends_with(Outcome::UpdateTooLong);
         }
-        let letters = layout::name_length(cells, found) as usize;
+        let letters = layout::name_length(cells, found);
         let st = self.release(0, cells);
         let to = found + layout::HEAD_SIZE + letters;
         memory::move_block(cells, value + 1, to, count as usize);

@@ -10,7 +10,7 @@ use crate::lookup::Standing;
 use crate::{layout, lookup};
 
 // The head of a group in which nothing is defined: the mark.
-pub const NO_DEFINITION: u32 = 65536;
+pub const NO_DEFINITION: u32 = layout::MARK;
 
 // The group of the name that stands in so many cells.
 pub(crate) fn group(cells: &[u32], from: usize, count: usize) -> usize
@@ -42,7 +42,7 @@ fn group_at(cells: &[u32], definition: usize) -> usize
     requires { (length cells.now ≤ cells_limit) × (definition ≤ 4294967296) }
     ensures { (result ≡ definition_group cells.now definition) × (result < 64) }
 {
-    let letters = layout::name_length(cells, definition) as usize;
+    let letters = layout::name_length(cells, definition);
     group(cells, definition + layout::HEAD_SIZE, letters)
 }
 

@@ -82,25 +82,25 @@ pub(crate) fn write_lock(cells: &mut [u32], definition: usize)
     memory::write(cells, definition, 1);
 }
 
-pub(crate) fn name_length(cells: &[u32], definition: usize) -> u32
+pub(crate) fn name_length(cells: &[u32], definition: usize) -> usize
     requires { definition ≤ 8589934592 }
     ensures { result ≡ name_length cells.now definition }
 {
-    memory::read(cells, definition + NAME_LENGTH)
+    memory::read(cells, definition + NAME_LENGTH) as usize
 }
 
-pub(crate) fn room(cells: &[u32], definition: usize) -> u32
+pub(crate) fn room(cells: &[u32], definition: usize) -> usize
     requires { definition ≤ 8589934592 }
     ensures { result ≡ room cells.now definition }
 {
-    memory::read(cells, definition + ROOM)
+    memory::read(cells, definition + ROOM) as usize
 }
 
-pub(crate) fn value_length(cells: &[u32], definition: usize) -> u32
+pub(crate) fn value_length(cells: &[u32], definition: usize) -> usize
     requires { definition ≤ 8589934592 }
     ensures { result ≡ value_length cells.now definition }
 {
-    memory::read(cells, definition + VALUE_LENGTH)
+    memory::read(cells, definition + VALUE_LENGTH) as usize
 }
 
 pub(crate) fn write_value_length(cells: &mut [u32], definition: usize, count: u32)
@@ -136,10 +136,10 @@ pub(crate) fn write_head(cells: &mut [u32], definition: usize, letters: usize, b
 }
 
 // Of an open call, or of a list.
-pub(crate) fn right_before(cells: &[u32], at: usize) -> u32
+pub(crate) fn right_before(cells: &[u32], at: usize) -> usize
     ensures { result ≡ right_before cells.now at }
 {
-    memory::read(cells, at)
+    memory::read(cells, at) as usize
 }
 
 pub(crate) fn write_right_before(cells: &mut [u32], at: usize, right: u32)

@@ -25,8 +25,8 @@ ghost use Rattle.machine.specs.Origins.{Noted, Notes, at_once};
 use language::rules;
 use run::{Answer, Run, Stepped};
 
-// At most so many scans from a standing, in the memory that holds it and with the heads of the index. A standing that cannot be is refused untouched. Where both
-// runs of numbers are as long as the output, they hold of each byte written where it came from.
+// At most so many scans from a standing, in the memory that holds it and with the heads of the index. A standing that cannot be is
+// refused untouched. Where both runs of numbers are as long as the output, they hold of each byte written where it came from.
 pub fn go_on(
     run: Run,
     kinds: &[u8; 256],

@@ -93,7 +93,7 @@ fn is_named(cells: &[u32], position: usize, name: usize, count: usize) -> bool
     requires { (position ≤ cells_limit) × (name ≤ 8589934592) }
     ensures { result ≡ is_named cells.now position name count }
 {
-    let letters = layout::name_length(cells, position) as usize;
+    let letters = layout::name_length(cells, position);
     if letters != count {
         return false;
     }
@@ -105,8 +105,8 @@ pub(crate) fn size(cells: &[u32], definition: usize) -> usize
     requires { definition ≤ 4294967296 }
     ensures { (result ≡ size cells.now definition) × (result ≤ 8589934595) }
 {
-    let letters = layout::name_length(cells, definition) as usize;
-    layout::HEAD_SIZE + letters + layout::room(cells, definition) as usize
+    let letters = layout::name_length(cells, definition);
+    layout::HEAD_SIZE + letters + layout::room(cells, definition)
 }
 
 // How many definitions stand from one position to another.

@@ -85,11 +85,7 @@ pub(crate) fn compare(cells: &[u32], first: usize, second: usize) -> u32
     ensures { result ≡ compare cells.now first second }
 {
     let count = memory::read(cells, first) as usize;
-    if memory::same_blocks(cells, first, second, count + 1) {
-        1
-    } else {
-        0
-    }
+    u32::from(memory::same_blocks(cells, first, second, count + 1))
 }
 
 // The operation of a built-in on two arguments.

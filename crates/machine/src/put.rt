@@ -37,7 +37,7 @@ impl Run {
         if self.charge >= cells.len() {
             return self.ends_with(Outcome::NoCellsLeft);
         }
-        memory::write(cells, self.calls.left, byte as u32);
+        memory::write(cells, self.calls.left, u32::from(byte));
         self.collected(1).goes_on()
     }
 

@@ -81,11 +81,11 @@ impl Run {
     {
         let body = self.source.body;
         let offset = self.source.offset;
-        let length = layout::value_length(cells, body) as usize;
+        let length = layout::value_length(cells, body);
         if length <= offset {
             return None;
         }
-        let letters = layout::name_length(cells, body) as usize;
+        let letters = layout::name_length(cells, body);
         let byte = memory::read(cells, body + layout::HEAD_SIZE + letters + offset);
         Some((byte % 256) as u8)
     }
@@ -188,7 +188,7 @@ impl Run {
             return self.ends_with(Outcome::BodyInCall);
         }
         let list = self.source.list;
-        let to = layout::right_before(cells, list) as usize;
+        let to = layout::right_before(cells, list);
         let links = layout::list_link(cells, list);
         let reader = layout::return_link(cells, list);
         let behind = list + layout::high(links) + layout::LIST_OVERHEAD;
