@@ -1,15 +1,16 @@
 -- A byte of a body, and `~` with its digit or letter.
-use Prim.Native.Nat.{ℕ, zero, suc, ◌+◌, ◌%◌, ◌≤◌, ◌<◌}
+use Prim.Native.Nat.{ℕ, zero, suc, ◌+◌, ◌-◌, ◌%◌, ◌≤◌, ◌<◌}
 use native.Mathlib.Omega.{arith}
 use mathlib.Core.Path.{◌≡◌, refl, sym, ap, ◌∙◌}
-use mathlib.Core.Bool.{Bool, true, false}
+use mathlib.Core.Bool.{Bool, true, false, cond, ◌&&◌}
 use mathlib.Core.List.{List, [], ◌∷◌, ◌++◌}
-use Rattle.std.specs.Prelude.{Option, None, Some}
+use Rattle.std.specs.Prelude.{Option, None, Some, IfSome}
 use lib.ListN.{length, take, drop, get_or, length-drop}
 use lib.Seq.{get_or-drop}
-use lib.Dec.{ltb}
-use borrow.Author.Tests.{le-leb, lt-leb, ltb-true, ltb-false}
-use Rattle.language.specs.Signs.{Bytes, Table, parameter_number, language}
+use lib.Dec.{leb, ltb}
+use borrow.Author.Tests.{le-leb, lt-leb, leb-true, ltb-true, ltb-false}
+use Rattle.decimal.specs.Operand.{is_digit}
+use Rattle.language.specs.Signs.{Bytes, Table, parameter_digit, parameter_number, language}
 use Rattle.language.specs.Definitions.{Definition}
 use Rattle.language.specs.BuiltIns.{parameter}
 use Rattle.language.specs.Charge.{arguments_price, definitions_price}
@@ -91,6 +92,20 @@ module _ {n : ℕ} {older : List Definition} {heads whole start : List ℕ} {r :
         ∙ ap (λ (j : List ℕ). get_or j 0 0) tail in
         let whole' : x % 256 ≡ x = omega arith in
         rw (lt-leb (value_length l r.source.body) r.source.offset (omega (arith, offset_eq, valued)), byteIs) (ap Some whole')
+
+-- a byte stands for a parameter from 0 to 35, or for none
+pub numbered : (x : ℕ) → IfSome (parameter_number x) (λ k. k < 36)
+numbered x = letter (leb 97 x) (leb x 122) refl
+  where
+    digit : (a b : Bool) → leb x 57 ≡ b → IfSome (cond (a && b) (Some (x - 48)) None) (λ k. k < 36)
+    digit true true e = let z = leb-true x 57 e in omega arith
+    digit true false e = tt
+    digit false b e = tt
+
+    letter : (a b : Bool) → leb x 122 ≡ b → IfSome (cond (a && b) (Some (x - 97 + 10)) (parameter_digit x)) (λ k. k < 36)
+    letter true true e = let z = leb-true x 122 e in omega arith
+    letter true false e = digit (leb 48 x) (leb x 57) refl
+    letter false b e = digit (leb 48 x) (leb x 57) refl
 
 module _ {n : ℕ} {older : List Definition} {heads whole start : List ℕ} {r : Run} {l o : List ℕ} {s : State}
     (free : definitions_price older ≡ 0) (h : Represents n older heads whole start r (lent l o) s) (B : Body) (Bs : List Body) (e : s.bodies ≡ B ∷ Bs) where

@@ -14,6 +14,8 @@ use denote.Enum.Declared.{tag_of}
 use Rattle.std.specs.Prelude.{Option, None, Some, IfSome, Result, Ok, Err}
 use Rattle.decimal.specs.declared.operations.Refusal.{Refusal}
 use Rattle.language.specs.declared.built_ins.BuiltIn.{BuiltIn}
+use Rattle.language.specs.declared.built_ins.BuiltIn.TheVariants.{Def, Val, Update, Arithmetic, Seq, Size, If, Lock}
+use Rattle.language.specs.BuiltIns.{needs}
 use Rattle.language.specs.Expansion.{Lent, lent}
 use Rattle.machine.specs.declared.run.Run.{Run}
 use Rattle.machine.specs.declared.run.Answer.{Answer}
@@ -93,6 +95,17 @@ walk_below (suc t) l p name count = go (leb (length l) p) refl (is_named l p nam
 
 pub found_below : (l h : List ℕ) (name : ℕ) → IfSome (newest l h name) (λ d. d < length l)
 found_below l h name = walk_below (length l) l (get_or h (name_group l name) 0) name (get_or l name 0)
+
+-- a built-in needs few parameters
+pub few : (b : BuiltIn) → needs b ≤ 2
+few Def = omega arith
+few Val = omega arith
+few Update = omega arith
+few (Arithmetic op) = omega arith
+few Seq = omega arith
+few Size = omega arith
+few If = omega arith
+few Lock = omega arith
 
 -- what a function leaves, the definitions of which stand within the largest run of cells
 record Within (a : After) : Type 0 where

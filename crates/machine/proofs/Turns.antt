@@ -11,7 +11,8 @@ use lib.Dec.{eqb, leb}
 use borrow.Author.Tests.{le-leb, lt-leb}
 use Rattle.memory.specs.Block.{block, low_bytes}
 use Rattle.memory.proofs.Blocks.{block_more, length-low_bytes, get_or-low_bytes}
-use Rattle.machine.specs.Walks.{nowhere, mark, behind, argument, is_one, chosen_from, size, is_named, group_link, with_group_link, newest_from, definitions_from, high, low, is_read_from, list_link, return_link, removed_at, removed_from, link_moved, relinked_from, restored_at, restored_from}
+use Rattle.language.specs.Signs.{ascii}
+use Rattle.machine.specs.Walks.{nowhere, mark, behind, argument, is_text, chosen_from, size, is_named, group_link, with_group_link, newest_from, definitions_from, high, low, is_read_from, list_link, return_link, removed_at, removed_from, link_moved, relinked_from, restored_at, restored_from}
 
 -- the value of a test that a call answered
 pub told : {r b v : Bool} → r ≡ b → r ≡ v → b ≡ v
@@ -44,7 +45,7 @@ module _ (l : List ℕ) where
       (p n i : ℕ) → i < n
       → chosen_from (n - i) l p
       ≡ cond (leb (length l) p) None
-      (option_and_then (λ second. cond (is_one l (behind l p)) (Some second) (chosen_from (n - (i + 1)) l second)) (argument l p 2))
+      (option_and_then (λ second. cond (is_text l (behind l p) (ascii "1")) (Some second) (chosen_from (n - (i + 1)) l second)) (argument l p 2))
   unfolding chosen_from
   chosen_turn p n i h = rw (left n i h)
 

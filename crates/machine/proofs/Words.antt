@@ -14,7 +14,7 @@ use Rattle.language.specs.Signs.{Bytes, ascii}
 use Rattle.language.specs.Definitions as D
 use Rattle.language.specs.BuiltIns as B
 use Rattle.language.specs.Charge.{arguments_price}
-use Rattle.machine.specs.Walks.{mark, behind, is_one, chosen_from, compare}
+use Rattle.machine.specs.Walks.{mark, behind, is_text, chosen_from, compare}
 use Rattle.machine.specs.Items.{encode_arguments}
 use Rattle.machine.proofs.Finds.{first_of, argument_at, argument_behind, argument_past}
 use Rattle.machine.proofs.Naming.{TextAt, argument_text, same_is}
@@ -71,7 +71,7 @@ compare_is {l} {p} {q} {a} {b} f g =
 -- IF -----------------------------------------------------------------------------------------------------------------
 
 -- the code finds out whether an argument is exactly `1`
-is_one_is : {l : List ℕ} {p : ℕ} {t : Bytes} → TextAt l p t → is_one l p ≡ D.same t (ascii "1")
+is_one_is : {l : List ℕ} {p : ℕ} {t : Bytes} → TextAt l p t → is_text l p (ascii "1") ≡ D.same t (ascii "1")
 is_one_is {l} {p} {t} h = rw (h.counted, same_bytes_in (p + 1) (length t) (ascii "1") l h.within, h.bytes, same_is t (ascii "1"))
 
 -- the walk over the pairs behind the first of some arguments comes to what IF gives

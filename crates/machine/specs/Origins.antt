@@ -1,6 +1,6 @@
 -- Where each byte of the output came from: what `go_on` promises beside `Moves`, and what its functions do.
 use Rattle.std.specs.Prelude.{Option, None, Some, ℕ, ◌+◌, ◌-◌, ◌<◌, ◌≡◌, Bool, true, false, cond, List, length, get_or, eqb, ltb}
-use Rattle.memory.specs.Block.{placed, same_bytes, filled}
+use Rattle.memory.specs.Block.{placed, filled}
 use Rattle.language.specs.declared.rules.Rule.{Rule}
 use Rattle.language.specs.declared.rules.Rule.TheVariants.{CopiedFromText, CopiedFromBody, Fetched, GivenByVal, GivenByBuiltIn}
 use Rattle.language.specs.declared.signs.Sign.{Sign}
@@ -10,7 +10,7 @@ use Rattle.language.specs.Scanning.{State, next}
 use Rattle.language.specs.Expansion.{Lent, limits_of}
 use Rattle.language.specs.Origins.{rule_number, Origin, origins_from, reads_of, rules_of, Numbers, numbers, too_short}
 use Rattle.machine.specs.declared.run.Run.{Run}
-use Rattle.machine.specs.Walks.{nowhere, cell, arguments_from}
+use Rattle.machine.specs.Walks.{nowhere, cell, arguments_from, is_text}
 use Rattle.machine.specs.Machine.{body_byte}
 use Rattle.machine.specs.Moving.{is_in_range, portion, Holds}
 
@@ -57,7 +57,7 @@ fetches_next r kinds l = cond (ltb 0 r.quotes) false (tilde_next kinds (body_byt
 
 -- VAL, or another built-in, by the name at a length cell
 abbrev pub given_by_name : List ℕ → ℕ → Rule
-given_by_name l name = cond (same_bytes (name + 1) (get_or l name 0) (ascii "VAL") l) GivenByVal GivenByBuiltIn
+given_by_name l name = cond (is_text l name (ascii "VAL")) GivenByVal GivenByBuiltIn
 
 -- the rule by which the next scan writes, if it does: while a call is open only a built-in gives to the output
 abbrev pub rule : Run → List ℕ → List ℕ → Rule

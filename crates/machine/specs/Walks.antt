@@ -106,14 +106,14 @@ unfoldable pub argument : List ℕ → ℕ → ℕ → Option ℕ
 argument l p zero = cond (leb mark (get_or l p 0)) None (Some p)
 argument l p (suc k) = let r = argument l (behind l p) k in cond (leb mark (get_or l p 0)) None r
 
--- whether the argument at a length cell is exactly `1`
-abbrev pub is_one : List ℕ → ℕ → Bool
-is_one l p = same_bytes (p + 1) (get_or l p 0) (ascii "1") l
+-- whether the argument at a length cell is exactly this text
+abbrev pub is_text : List ℕ → ℕ → List ℕ → Bool
+is_text l p text = same_bytes (p + 1) (get_or l p 0) text l
 
 unfoldable pub chosen_from : ℕ → List ℕ → ℕ → Option ℕ
 chosen_from zero l p = None
 chosen_from (suc t) l p =
-    let next = λ (second : ℕ). cond (is_one l (behind l p)) (Some second) (chosen_from t l second) in
+    let next = λ (second : ℕ). cond (is_text l (behind l p) (ascii "1")) (Some second) (chosen_from t l second) in
     cond (leb (length l) p) None (option_and_then next (argument l p 2))
 
 -- IF: of the pairs behind the argument at a length cell the second of the first whose first is `1`
@@ -222,7 +222,7 @@ unfoldable pub named_among : List ℕ → ℕ → List Definition → Option Bui
 named_among l name [] = None
 named_among l name (d ∷ ds) =
     let r = named_among l name ds in
-    cond (same_bytes (name + 1) (get_or l name 0) d.name l) (named_as d.content) r
+    cond (is_text l name d.name) (named_as d.content) r
 
 -- the built-ins are the oldest of their groups, and only those of the name's group are looked at
 abbrev pub built_in_named : List ℕ → ℕ → Option BuiltIn

@@ -2,7 +2,7 @@
 ghost use Rattle.std.specs.Prelude.{◌≡◌, ◌+◌, ◌-◌, ◌≤◌, ◌<◌, ◌⊎◌, length, IfSome, MatchOption};
 ghost use Rattle.std.specs.Iterator.{at_most};
 ghost use Rattle.language.specs.Signs.{cells_limit};
-ghost use Rattle.machine.specs.Walks.{nowhere, behind, argument, is_one, chosen, size, is_named, newest, definitions, is_read};
+ghost use Rattle.machine.specs.Walks.{nowhere, behind, argument, is_text, chosen, size, is_named, newest, definitions, is_read};
 
 use crate::run::Run;
 use crate::{index, layout};
@@ -49,7 +49,7 @@ pub(crate) fn chosen(cells: &[u32], name: usize) -> Option<usize>
             return None;
         }
         let second = argument(cells, position, 2)?;
-        if is_one(cells, behind(cells, position)) {
+        if is_text(cells, behind(cells, position), b"1") {
             return Some(second);
         }
         position = second;
@@ -57,13 +57,13 @@ pub(crate) fn chosen(cells: &[u32], name: usize) -> Option<usize>
     None
 }
 
-// Whether the argument at a length cell is exactly `1`.
-fn is_one(cells: &[u32], argument: usize) -> bool
+// Whether the argument at a length cell is exactly this text.
+pub(crate) fn is_text(cells: &[u32], argument: usize, text: &[u8]) -> bool
     requires { argument ≤ 8589934592 }
-    ensures { result ≡ is_one cells.now argument }
+    ensures { result ≡ is_text cells.now argument text.now }
 {
     let count = memory::read(cells, argument) as usize;
-    memory::same_bytes(cells, argument + 1, count, b"1")
+    memory::same_bytes(cells, argument + 1, count, text)
 }
 
 // The newest definition with the name at a length cell: the first that has it in its group.

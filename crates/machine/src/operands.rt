@@ -5,7 +5,7 @@ ghost use Rattle.language.specs.Groups.{of_group};
 ghost use Rattle.language.specs.BuiltIns.{named, built_ins};
 ghost use Rattle.machine.specs.Walks.{built_in_named, named_among, compare, operand_at, calculate};
 
-use crate::index;
+use crate::{index, lookup};
 use decimal::operations::{Operation, Refusal};
 use decimal::reader::Reader;
 use decimal::shortest::Decimal;
@@ -43,37 +43,34 @@ pub(crate) fn built_in(cells: &[u32], name: usize) -> Option<BuiltIn>
 }
 
 // The built-in, where the name at a length cell is its own.
+#[tactic(auto, unfolding(crate::specs::Walks::named_among))]
 fn known(cells: &[u32], name: usize, own: &[u8], built_in: BuiltIn) -> Option<BuiltIn>
     requires { name ≤ 8589934592 }
     ensures { result ≡ named_among cells.now name (named own.now built_in ∷ []) }
 {
-    let count = memory::read(cells, name) as usize;
-    if memory::same_bytes(cells, name + 1, count, own) {
-        return Some(built_in);
-    }
-    None
+    lookup::is_text(cells, name, own).then_some(built_in)
 }
 
+#[tactic(auto, unfolding(crate::specs::Walks::named_among, language::specs::Groups::of_group, language::specs::Groups::sum))]
 fn of_group_15(cells: &[u32], name: usize) -> Option<BuiltIn>
     requires { name ≤ 8589934592 }
     ensures { result ≡ named_among cells.now name (of_group 15 built_ins) }
 {
-    let count = memory::read(cells, name) as usize;
-    if memory::same_bytes(cells, name + 1, count, b"DEF") {
+    if lookup::is_text(cells, name, b"DEF") {
         return Some(BuiltIn::Def);
     }
     known(cells, name, b"IF", BuiltIn::If)
 }
 
+#[tactic(auto, unfolding(crate::specs::Walks::named_among, language::specs::Groups::of_group, language::specs::Groups::sum))]
 fn of_group_41(cells: &[u32], name: usize) -> Option<BuiltIn>
     requires { name ≤ 8589934592 }
     ensures { result ≡ named_among cells.now name (of_group 41 built_ins) }
 {
-    let count = memory::read(cells, name) as usize;
-    if memory::same_bytes(cells, name + 1, count, b"Quot") {
+    if lookup::is_text(cells, name, b"Quot") {
         return Some(BuiltIn::Arithmetic(Operation::Quotient));
     }
-    if memory::same_bytes(cells, name + 1, count, b"SEQ") {
+    if lookup::is_text(cells, name, b"SEQ") {
         return Some(BuiltIn::Seq);
     }
     known(cells, name, b"LOCK", BuiltIn::Lock)

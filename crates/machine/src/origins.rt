@@ -5,7 +5,7 @@ ghost use Rattle.machine.specs.Walks.{nowhere};
 ghost use Rattle.machine.specs.Origins.{fetches_next, given_by_name, rule, note_unless};
 
 use crate::run::Run;
-use crate::{layout, scan};
+use crate::{layout, lookup, scan};
 use language::rules::Rule;
 use language::signs::Sign;
 
@@ -71,8 +71,7 @@ fn given_by_name(cells: &[u32], name: usize) -> Rule
     requires { name ≤ 8589934592 }
     ensures { result ≡ given_by_name cells.now name }
 {
-    let count = memory::read(cells, name) as usize;
-    if memory::same_bytes(cells, name + 1, count, b"VAL") {
+    if lookup::is_text(cells, name, b"VAL") {
         Rule::GivenByVal
     } else {
         Rule::GivenByBuiltIn
