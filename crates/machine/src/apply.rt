@@ -84,18 +84,16 @@ impl Run {
     fn body_begun(mut self, definition: usize, list: usize, around: u32) -> Run
         ensures { result ≡ body_begun self definition list around }
     {
-        let calls = Calls {
+        self.calls = Calls {
             left: self.calls.call,
             call: layout::low(around),
             hand: layout::high(around),
         };
-        let source = Source {
+        self.source = Source {
             list,
             body: definition,
             offset: 0,
         };
-        self.calls = calls;
-        self.source = source;
         self.right = list;
         self
     }

@@ -124,12 +124,11 @@ impl Run {
         let list = self.calls.left - self.calls.call + 1;
         let since = to - self.right;
         let left = self.calls.call + kept;
-        let calls = Calls {
+        self.calls = Calls {
             left,
             call: layout::low(around),
             hand: layout::high(around),
         };
-        self.calls = calls;
         self.counts.live -= gone;
         self.right = to;
         self.charge -= list + since;

@@ -81,7 +81,7 @@ fn link_moved(heads: &[u32; 64], cells: &[u32], definition: usize, end: usize, b
     requires { (length cells.now ≤ cells_limit) × (definition ≤ 4294967296) × (by ≤ cells_limit) }
     ensures { result ≡ link_moved cells.now heads.now definition end by }
 {
-    let link = layout::group_link(cells, definition) as usize;
+    let link = layout::position(layout::group_link(cells, definition));
     if link < end {
         return layout::cell(link + by);
     }

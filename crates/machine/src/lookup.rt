@@ -1,4 +1,4 @@
-// Walks over the cells. Each makes at most so many turns, and answers None where what it looks for is not there.
+// Walks over the cells. Each makes at most so many turns; one that looks for something answers None where it is not there.
 ghost use Rattle.std.specs.Prelude.{◌≡◌, ◌+◌, ◌-◌, ◌≤◌, ◌<◌, ◌⊎◌, length, IfSome, MatchOption};
 ghost use Rattle.std.specs.Iterator.{at_most};
 ghost use Rattle.language.specs.Signs.{cells_limit};
@@ -83,7 +83,7 @@ pub(crate) fn newest(cells: &[u32], heads: &[u32; 64], name: usize) -> Option<us
         if is_named(cells, position, name, count) {
             return Some(position);
         }
-        position = layout::group_link(cells, position) as usize;
+        position = layout::position(layout::group_link(cells, position));
     }
     None
 }

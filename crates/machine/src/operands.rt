@@ -12,6 +12,7 @@ use decimal::shortest::Decimal;
 use language::built_ins::BuiltIn;
 
 // Which built-in has the name at a length cell: those of its group are looked at, and no others.
+#[tactic(auto, unfolding(crate::specs::Walks::named_among, language::specs::Groups::of_group, language::specs::Groups::sum))]
 pub(crate) fn built_in(cells: &[u32], name: usize) -> Option<BuiltIn>
     requires { (length cells.now ≤ cells_limit) × (name ≤ 8589934592) }
     ensures { result ≡ built_in_named cells.now name }

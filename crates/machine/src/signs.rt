@@ -3,7 +3,7 @@ ghost use Rattle.std.specs.Prelude.{◌≡◌, List, ℕ, ◌+◌, ◌≤◌, �
 ghost use Rattle.language.specs.Signs.{cells_limit, parameter_number};
 ghost use Rattle.language.specs.Expansion.{lent};
 ghost use Rattle.machine.specs.Walks.{nowhere};
-ghost use Rattle.machine.specs.Machine.{Sound, leaves, leaves_indexed, Shifted, shifted, open_at, open_call, end_argument, end_by_comma, separate, body_byte, fetch_in_text, fetch_number, fetch_in_body, fetch, unquote, end_text, own_call, body_ended, end_body_to, end_body};
+ghost use Rattle.machine.specs.Machine.{Sound, leaves, leaves_indexed, shifted, open_at, open_call, end_argument, end_by_comma, separate, body_byte, fetch_in_text, fetch_number, fetch_in_body, fetch, unquote, end_text, own_call, body_ended, end_body_to, end_body};
 
 use crate::run::{Run, Source, Stepped};
 use crate::{index, layout, lookup};
@@ -235,12 +235,11 @@ impl Run {
         ensures { result ≡ body_ended self to links reader gone }
     {
         let went = to - self.source.list;
-        let source = Source {
+        self.source = Source {
             list: layout::low(links),
             body: layout::high(reader),
             offset: layout::low(reader),
         };
-        self.source = source;
         self.counts.live -= gone;
         self.right += went;
         self.quotes = 0;
