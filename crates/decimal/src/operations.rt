@@ -1,5 +1,5 @@
 // The five operations on operands that were read.
-ghost use Rattle.std.specs.Prelude.{◌≡◌, ◌≢◌, pos, negsuc, Err};
+ghost use Rattle.std.specs.Prelude.{◌≡◌, ◌≢◌, pos, negsuc};
 ghost use Rattle.decimal.specs.Refusals.{number_of};
 ghost use Rattle.decimal.specs.Arithmetic.{Division, of_operands, of_numbers, ranged};
 ghost use Rattle.decimal.specs.Answers.{answer_of};

@@ -1,7 +1,7 @@
 // Reading an operand byte by byte.
 ghost use Rattle.std.specs.Prelude.{◌≡◌, List, [], ◌∷◌, ◌++◌, ℕ, ◌+◌, ◌*◌, min, Some};
 ghost use Rattle.decimal.specs.Operand.{operand, ranged};
-ghost use Rattle.decimal.specs.Reading.{Took, after_first, after_digit, refusing, beyond, signed as signed_of};
+ghost use Rattle.decimal.specs.Reading.{Took, after_first, after_digit, beyond, signed as signed_of};
 
 // How far a reader has come.
 #[derive(Clone, Copy)]

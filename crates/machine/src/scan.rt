@@ -12,7 +12,7 @@ use language::signs::Sign;
 impl Run {
     // One scan takes the standing of the run and gives the next.
     pub(crate) fn step(
-        self,
+        mut self,
         kinds: &[u8; 256],
         text: &[u8],
         heads: &mut [u32; 64],
@@ -22,12 +22,11 @@ impl Run {
         requires { (Ready (length cells.old) self) × (self.counts.scans < last_scan) × (self.counts.written ≤ length output.old) }
         ensures { leaves_indexed result (lent cells.new output.new) heads.new ≡ step self kinds.now text.now heads.old (lent cells.old output.old) }
     {
-        let mut run = self;
-        run.counts.scans += 1;
-        let Some(byte) = run.next_byte(text, cells) else {
-            return run.end_source(heads, cells);
+        self.counts.scans += 1;
+        let Some(byte) = self.next_byte(text, cells) else {
+            return self.end_source(heads, cells);
         };
-        run.passed()
+        self.passed()
             .scan_byte(sign_of(kinds, byte), byte, heads, cells, output)
     }
 
@@ -107,7 +106,7 @@ impl Run {
     }
 
     // The outermost pair is dropped, inner ones are copied.
-    fn scan_quoted(self, sign: Sign, byte: u8, cells: &mut [u32], output: &mut [u8]) -> Stepped
+    fn scan_quoted(mut self, sign: Sign, byte: u8, cells: &mut [u32], output: &mut [u8]) -> Stepped
         requires { (Sound (length cells.old) self) × (self.counts.written ≤ length output.old) × (0 < self.quotes) }
         ensures { leaves result (lent cells.new output.new) ≡ scan_quoted self sign byte (lent cells.old output.old) }
     {
@@ -115,9 +114,8 @@ impl Run {
         if depth == 0 {
             return self.quoted(0);
         }
-        let mut run = self;
-        run.quotes = depth;
-        run.put(byte, cells, output)
+        self.quotes = depth;
+        self.put(byte, cells, output)
     }
 
     fn quoted(mut self, depth: usize) -> Stepped

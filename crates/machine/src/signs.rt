@@ -102,7 +102,7 @@ impl Run {
     }
 
     // The parameter with a number.
-    fn fetch_number(self, number: usize, cells: &mut [u32], output: &mut [u8]) -> Stepped
+    fn fetch_number(mut self, number: usize, cells: &mut [u32], output: &mut [u8]) -> Stepped
         requires { (Sound (length cells.old) self) × (self.counts.written ≤ length output.old) × (self.source.offset < 4294967296) × (number ≤ nowhere) }
         ensures { leaves result (lent cells.new output.new) ≡ fetch_number self (Some number) (lent cells.old output.old) }
     {
@@ -111,9 +111,8 @@ impl Run {
             return self.ends_with(Outcome::NotSupplied);
         };
         let count = memory::read(cells, position) as usize;
-        let mut run = self;
-        run.source.offset += 1;
-        run.copy(position + 1, count, cells, output)
+        self.source.offset += 1;
+        self.copy(position + 1, count, cells, output)
     }
 
     // `~` in a body, with its digit or letter.
