@@ -13,6 +13,7 @@ mod sizes;
 mod tracing;
 mod wanted;
 
+use rows::Count;
 use std::fs;
 use std::io::{Cursor, Write};
 use std::os::fd::AsRawFd;
@@ -27,10 +28,8 @@ fn main(rt: HostRuntime) {
     try_file(&rt, "origins.tsv", b" origins, ", rows::origins_are_right);
     try_file(&rt, "keys.tsv", b" keys, ", rows::keys_are_right);
     let text = [b'x'; sizes::LONGEST];
-    let wrong = sizes::try_all(&text);
-    count(sizes::RUNS, b" sizes, ", wrong);
-    let wrong = wanted::try_all(&text);
-    count(wanted::CALLS, b" sizes of keys, ", wrong);
+    print(sizes::try_all(&text), b" sizes, ");
+    print(wanted::try_all(&text), b" sizes of keys, ");
 }
 
 fn try_file<F: Fn(&[u8]) -> Option<bool>>(rt: &HostRuntime, path: &str, name: &[u8], is_right: F)
@@ -46,8 +45,7 @@ fn try_file<F: Fn(&[u8]) -> Option<bool>>(rt: &HostRuntime, path: &str, name: &[
     let mut text = io::large_buffer();
     let len = io::read_full(opened.as_raw_fd(), &mut text);
     drop(opened);
-    let tried = rows::try_rows(&text[..len], is_right);
-    count(tried.rows, name, tried.wrong);
+    print(rows::try_rows(&text[..len], is_right), name);
 }
 
 // Writes a line to standard error: the path, a colon and the system's text for the error, without the number that std puts
@@ -63,9 +61,9 @@ fn fail(path: &str, error: &std::io::Error) {
     io::write_all(STANDARD_ERROR, b"\n");
 }
 
-fn count(runs: usize, name: &[u8], wrong: usize) {
-    io::print_decimal(STANDARD_OUTPUT, runs as u64);
+fn print(count: Count, name: &[u8]) {
+    io::print_decimal(STANDARD_OUTPUT, count.tried as u64);
     io::write_all(STANDARD_OUTPUT, name);
-    io::print_decimal(STANDARD_OUTPUT, wrong as u64);
+    io::print_decimal(STANDARD_OUTPUT, count.wrong as u64);
     io::write_all(STANDARD_OUTPUT, b" wrong\n");
 }

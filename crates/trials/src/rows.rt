@@ -9,9 +9,10 @@ use crate::recording::Recording;
 use crate::tracing::Noted;
 use crate::{STANDARD_OUTPUT, fields, signs, tracing};
 
+// How many trials were made, and how many of them are wrong.
 #[derive(Clone, Copy)]
 pub(crate) struct Count {
-    pub(crate) rows: usize,
+    pub(crate) tried: usize,
     pub(crate) wrong: usize,
 }
 
@@ -21,7 +22,7 @@ pub(crate) fn try_rows<F: Fn(&[u8]) -> Option<bool>>(text: &[u8], is_right: F) -
 {
     let lines = || text.split_inclusive(|byte| *byte == b'\n').skip(1);
     Count {
-        rows: lines().count(),
+        tried: lines().count(),
         wrong: lines().filter(|line| is_wrong(line, &is_right)).count(),
     }
 }

@@ -1,45 +1,43 @@
 // Runs plain texts of five sizes on cells and output of five sizes each, and writes a line for each run that is wrong.
-ghost use Rattle.std.specs.Prelude.{◌+◌, ◌<◌, ◌≤◌};
+ghost use Rattle.std.specs.Prelude.{◌+◌, ◌<◌, ◌≤◌, All};
 
 use crate::STANDARD_OUTPUT;
 use crate::lending::{Lent, Run};
+use crate::rows::Count;
 use expander::Report;
 use language::Sizes;
 
 // The longest text that is tried: one byte more than may be lent.
 pub(crate) const LONGEST: usize = Sizes::TEXT_LIMIT + 1;
 
-pub(crate) const RUNS: usize = 125;
-
-// How many of the runs are wrong.
-pub(crate) fn try_all(text: &[u8]) -> usize {
-    (0..RUNS).filter(|run| is_wrong(text, *run)).count()
+pub(crate) fn try_all(text: &[u8]) -> Count {
+    let mut count = Count { tried: 0, wrong: 0 };
+    for len in about(Sizes::TEXT_LIMIT) {
+        for cells in about(Sizes::CELLS_LIMIT) {
+            for output in about(Sizes::OUTPUT_LIMIT) {
+                let sizes = [len, cells, output];
+                note(&mut count, is_right(text, len, cells, output), &sizes);
+            }
+        }
+    }
+    count
 }
 
-// Whether the run with this number is wrong. One that is wrong is named.
-fn is_wrong(text: &[u8], run: usize) -> bool {
-    let len = about(run / 25, Sizes::TEXT_LIMIT);
-    let cells = about(run / 5 % 5, Sizes::CELLS_LIMIT);
-    let output = about(run % 5, Sizes::OUTPUT_LIMIT);
-    if is_right(text, len, cells, output) {
-        return false;
+// Counts a trial of these sizes, and names one that is wrong. It saturates, so that no caller has to bound its loops.
+pub(crate) fn note(count: &mut Count, is_right: bool, sizes: &[usize]) {
+    count.tried = count.tried.saturating_add(1);
+    if !is_right {
+        count.wrong = count.wrong.saturating_add(1);
+        name(sizes);
     }
-    name(&[len, cells, output]);
-    true
 }
 
 // None, one, one less than the limit, the limit and one more.
-pub(crate) fn about(number: usize, limit: usize) -> usize
+pub(crate) fn about(limit: usize) -> [usize; 5]
     requires { (0 < limit) × (limit < 4294967296) }
-    ensures { result ≤ limit + 1 }
+    ensures { All (λ size. size ≤ limit + 1) result }
 {
-    match number {
-        0 => 0,
-        1 => 1,
-        2 => limit - 1,
-        3 => limit,
-        _ => limit + 1,
-    }
+    [0, 1, limit - 1, limit, limit + 1]
 }
 
 // Whether the run of the first so many bytes on so many cells and so much output is right.
@@ -64,7 +62,7 @@ fn is_right(text: &[u8], len: usize, cells: usize, output: usize) -> bool {
 }
 
 // Writes the line for a trial that is wrong.
-pub(crate) fn name(sizes: &[usize]) {
+fn name(sizes: &[usize]) {
     io::write_all(STANDARD_OUTPUT, b"wrong:");
     for size in sizes {
         io::write_all(STANDARD_OUTPUT, b" ");
@@ -75,7 +73,12 @@ pub(crate) fn name(sizes: &[usize]) {
 
 // The report of plain bytes: they are copied, one a scan, and the end of the text is one scan more.
 fn expected(len: usize, cells: usize, output: usize) -> Report {
-    if len > Sizes::TEXT_LIMIT || cells > Sizes::CELLS_LIMIT || output > Sizes::OUTPUT_LIMIT {
+    let sizes = Sizes {
+        text: len,
+        cells,
+        output,
+    };
+    if sizes.too_large() {
         return report(2, 0, 0, 0);
     }
     if len > output {

@@ -2,44 +2,37 @@
 ghost use Rattle.std.specs.Prelude.{◌+◌, ◌≤◌, length};
 
 use crate::recording::Recording;
+use crate::rows::Count;
 use crate::sizes;
 use keys::WANTED_LIMIT;
 use language::Sizes;
 
-pub(crate) const CALLS: usize = 35;
-
 // As long as the longest script and one byte more.
 const ROOM: usize = WANTED_LIMIT + 3;
 
-// How many of the calls are wrong.
-pub(crate) fn try_all(text: &[u8]) -> usize {
-    (0..CALLS).filter(|call| is_wrong(text, *call)).count()
-}
-
-// Whether the call with this number is wrong. One that is wrong is named.
-fn is_wrong(text: &[u8], call: usize) -> bool {
-    let len = sizes::about(call / 7, WANTED_LIMIT);
-    let output = lent(call % 7, len);
-    if is_right(text, len, output) {
-        return false;
+pub(crate) fn try_all(text: &[u8]) -> Count {
+    let mut count = Count { tried: 0, wrong: 0 };
+    for len in sizes::about(WANTED_LIMIT) {
+        for output in lent(len) {
+            sizes::note(&mut count, is_right(text, len, output), &[len, output]);
+        }
     }
-    sizes::name(&[len, output]);
-    true
+    count
 }
 
 // None, as long as the keys, one byte short of the script, its length, and about the limit.
-fn lent(number: usize, wanted: usize) -> usize
+fn lent(wanted: usize) -> [usize; 7]
     requires { wanted ≤ 65535 }
 {
-    match number {
-        0 => 0,
-        1 => wanted,
-        2 => wanted + 1,
-        3 => wanted + 2,
-        4 => Sizes::OUTPUT_LIMIT - 1,
-        5 => Sizes::OUTPUT_LIMIT,
-        _ => Sizes::OUTPUT_LIMIT + 1,
-    }
+    [
+        0,
+        wanted,
+        wanted + 1,
+        wanted + 2,
+        Sizes::OUTPUT_LIMIT - 1,
+        Sizes::OUTPUT_LIMIT,
+        Sizes::OUTPUT_LIMIT + 1,
+    ]
 }
 
 // Whether the call for the first so many bytes and so much output is right.
