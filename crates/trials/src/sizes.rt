@@ -73,12 +73,7 @@ fn name(sizes: &[usize]) {
 
 // The report of plain bytes: they are copied, one a scan, and the end of the text is one scan more.
 fn expected(len: usize, cells: usize, output: usize) -> Report {
-    let sizes = Sizes {
-        text: len,
-        cells,
-        output,
-    };
-    if sizes.too_large() {
+    if len > Sizes::TEXT_LIMIT || cells > Sizes::CELLS_LIMIT || output > Sizes::OUTPUT_LIMIT {
         return report(2, 0, 0, 0);
     }
     if len > output {
