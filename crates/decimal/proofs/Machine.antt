@@ -1,10 +1,9 @@
 -- The machine's signed numbers are the integers that they stand for: their bits, their negation, and their sum, difference and product.
-use Prim.Native.Nat.{ℕ, suc, ◌+◌, ◌-◌, ◌*◌, ◌≤◌, ◌<◌}
+use Prim.Native.Nat.{ℕ, suc, ◌+◌, ◌-◌, ◌*◌, ◌≤◌}
 use mathlib.Core.Path.{◌≡◌}
 use mathlib.Core.Bool.{Bool, true, false, cond, not}
 use native.Mathlib.Omega.{arith}
 use native.Mathlib.Nat.{mul-le-mul}
-use borrow.Author.Tests.{lt-ltb}
 use lib.Dec.{T, ltb}
 use lib.IntN.{ℤ, pos, negsuc, neg_ℤ, ◌+ℤ◌, ◌*ℤ◌}
 use lib.Signed.{mag}
@@ -15,10 +14,6 @@ use Rattle.decimal.proofs.Ranges.{mag_negated}
 use Rattle.decimal.specs.declared.operations.Operation.{Operation}
 use Rattle.decimal.specs.declared.operations.Operation.TheVariants.{Sum, Difference, Product, Quotient, Remainder}
 use Rattle.decimal.specs.Arithmetic.{exact, divides}
-
--- a size below the sign's bit is read as that number
-pub size_is : (n : ℕ) → n < 2147483648 → to_z w32 n ≡ pos n
-size_is n h = rw (lt-ltb n 2147483648 h)
 
 -- the magnitude of a sum
 mag_sum : (a b : ℤ) → mag (a +ℤ b) ≤ mag a + mag b + 1
@@ -66,7 +61,3 @@ widen f = record { sfits = omega (arith, f.sfits) }
 -- the product of two numbers of 32 bits, taken in 64 bits, is the integers'
 pub product_is : {a b x y : ℤ} → SFits w32 a → SFits w32 b → x ≡ to_z w32 (of_z w32 a) → y ≡ to_z w32 (of_z w32 b) → to_z w64 (of_z w64 (to_z w64 (of_z w64 x) *ℤ to_z w64 (of_z w64 y))) ≡ a *ℤ b
 product_is {a} {b} f g p q = rw (p, q, to_z-of_z f, to_z-of_z g, to_z-of_z (widen f), to_z-of_z (widen g)) (to_z-of_z (exact_fits Product a b tt f g))
-
--- a number of 32 bits, cast to 64 and read there
-abbrev pub wide : ℤ → ℤ
-wide z = to_z w64 (of_z w64 (to_z w32 (of_z w32 z)))

@@ -1,15 +1,13 @@
 -- What each branch of the operations answers is the definition's result.
 use mathlib.Core.Path.{◌≡◌, ap, ◌∙◌}
-use mathlib.Core.Logic.{◌≢◌}
 use mathlib.Core.Bool.{true}
 use Rattle.std.specs.Prelude.{Ok}
-use lib.IntN.{ℤ, pos, negsuc}
+use lib.IntN.{ℤ}
 use mir.Syntax.{w32}
 use mir.Val.{SFits, of_z, to_z}
 use mir.Facts.{to_z-of_z}
 use Rattle.decimal.proofs.Ranges.{in_range_lem}
 use Rattle.decimal.proofs.Division.{quotient_only, remainder_only, divisor_some, quotient_fits, remainder_fits}
-use Rattle.decimal.specs.declared.operations.Operation.{Operation}
 use Rattle.decimal.specs.declared.operations.Operation.TheVariants.{Quotient, Remainder}
 use Rattle.decimal.specs.Operand.{in_range}
 use Rattle.decimal.specs.Arithmetic.{Division, ranged, of_numbers}
@@ -18,15 +16,7 @@ use Rattle.decimal.specs.Arithmetic.{Division, ranged, of_numbers}
 in_is_number : (z : ℤ) → in_range z ≡ true → Ok z ≡ ranged z
 in_is_number z e = rw e
 
--- two numbers that were passed on are the numbers
-pub passed : (op : Operation) (a b : ℤ) → SFits w32 a → SFits w32 b → of_numbers op (to_z w32 (of_z w32 a)) (to_z w32 (of_z w32 b)) ≡ of_numbers op a b
-passed op a b f g = rw (to_z-of_z f, to_z-of_z g)
-
--- any other divisor may be handed on to `divide`
-pub tested : {b : ℤ} → SFits w32 b → (of_z w32 b ≡ 0 → ⊥) → (of_z w32 b ≡ 4294967295 → ⊥) → (to_z w32 (of_z w32 b) ≢ pos 0) × (to_z w32 (of_z w32 b) ≢ negsuc 0)
-tested g n m = rw (to_z-of_z g) (λ e. n (ap (of_z w32) e), λ e. m (ap (of_z w32) e))
-
--- and quotient and remainder are those of the division
+-- quotient and remainder are those of the division
 module _ {a b q r : ℤ} (f : SFits w32 a) (g : SFits w32 b) (d : Division (to_z w32 (of_z w32 a)) (to_z w32 (of_z w32 b)) q r) where
   -- of the numbers themselves
   itself : Division a b q r

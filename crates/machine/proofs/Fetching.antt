@@ -9,7 +9,6 @@ use lib.ListN.{length, take, drop, get_or, length-drop}
 use lib.Seq.{get_or-drop}
 use lib.Dec.{leb, ltb}
 use borrow.Author.Tests.{le-leb, lt-leb, leb-true, ltb-true, ltb-false}
-use Rattle.decimal.specs.Operand.{is_digit}
 use Rattle.language.specs.Signs.{Bytes, Table, parameter_digit, parameter_number, language}
 use Rattle.language.specs.Definitions.{Definition}
 use Rattle.language.specs.BuiltIns.{parameter}

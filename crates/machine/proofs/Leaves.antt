@@ -22,9 +22,8 @@ use Rattle.machine.specs.declared.run.Answer.{Answer}
 use Rattle.machine.specs.declared.run.Answer.TheVariants.{GoesOn, Ended, Damaged, Refused}
 use Rattle.machine.specs.declared.run.Stepped.{Stepped}
 use Rattle.machine.specs.Walks.{name_group, group_link, is_named, newest_from, newest, is_locked, room, right_before, return_link, definitions, is_read, chosen, built_in_named}
-use Rattle.machine.specs.Machine.{After, Indexed, keeping, unindexed, Resulting, goes, ends, damaged, goes_on, placing, released, release_to, release, define_in, def, leaves, charged, wrote, is_outer, give, refuse_named, given, val_at, val, update_at, update, choose, lock_in, lock, choose_at, give_answer, give_count, perform}
+use Rattle.machine.specs.Machine.{After, Indexed, unindexed, Resulting, goes, damaged, goes_on, placing, released, release_to, release, define_in, def, leaves, charged, wrote, is_outer, give, refuse_named, given, val_at, val, update_at, update, choose, lock_in, lock, choose_at, give_answer, give_count, perform}
 use Rattle.machine.specs.contracts.run.Answer.{the_type}
-use Rattle.language.specs.declared.outcomes.Outcome.TheVariants.{EmptyName}
 
 -- an answer of another kind does not go on
 pub ended : (a : Answer) → Among (1 ∷ 2 ∷ 3 ∷ []) (tag_of the_type a) → goes_on a ≡ false
@@ -42,12 +41,7 @@ ended a h = by_kind a (opened h)
 pub not_on : (a : Answer) → Among (1 ∷ 2 ∷ 3 ∷ []) (tag_of the_type a) → a ≡ GoesOn → ⊥
 not_on a h e = true≢false (ap goes_on (sym e) ∙ ended a h)
 
--- DEF turns an empty name away
-pub nameless : (r : Run) (name value : ℕ) (h : List ℕ) (m : Lent) {a : After} {letters : ℕ} → letters ≡ get_or m.cells name 0 → letters ≡ 0
-    → a ≡ ends EmptyName r m → keeping h a ≡ def r name value h m
-nameless r name value h m n z d = ap (keeping h) d ∙ rw (← n, z)
-
--- does not go on from what ended
+-- DEF does not go on from what ended
 pub not_defined : (r : Run) (name value : ℕ) (h : List ℕ) (m : Lent) {a : After} {x : Indexed} {letters : ℕ} → letters ≡ get_or m.cells name 0
     → (letters ≡ 0 → ⊥) → a ≡ release r 0 m → x ≡ unindexed r h a → goes_on a.answer ≡ false → x ≡ def r name value h m
 not_defined r name value h m n z e u g = u ∙ rw (← n, ne_eqb _ _ z, ← e, g)

@@ -1,9 +1,9 @@
--- One turn of each walk of n turns, of which i are made: what it answers while turns are left, and with none. And a test that a call answered.
+-- One turn of each walk of n turns, of which i are made: what it answers while turns are left, and with none.
 use Prim.Native.Nat.{ℕ, zero, suc, ◌+◌, ◌-◌, ◌%◌, ◌≤◌, ◌<◌}
-use mathlib.Core.Bool.{Bool, true, false, cond}
+use mathlib.Core.Bool.{true, false, cond}
 use mathlib.Core.List.{List, [], ◌∷◌, ◌++◌}
 use mathlib.Core.Logic.{◌⊎◌}
-use mathlib.Core.Path.{◌≡◌, refl, sym, ◌∙◌}
+use mathlib.Core.Path.{◌≡◌, refl, ◌∙◌}
 use native.Mathlib.Omega.{arith}
 use Rattle.std.specs.Prelude.{None, Some, option_and_then}
 use lib.ListN.{length, get_or}
@@ -13,10 +13,6 @@ use Rattle.memory.specs.Block.{block, low_bytes}
 use Rattle.memory.proofs.Blocks.{block_more, length-low_bytes, get_or-low_bytes}
 use Rattle.language.specs.Signs.{ascii}
 use Rattle.machine.specs.Walks.{nowhere, mark, behind, argument, is_text, chosen_from, size, is_named, group_link, with_group_link, newest_from, definitions_from, high, low, is_read_from, list_link, return_link, removed_at, removed_from, link_moved, relinked_from, restored_at, restored_from}
-
--- the value of a test that a call answered
-pub told : {r b v : Bool} → r ≡ b → r ≡ v → b ≡ v
-told e h = sym e ∙ h
 
 less : (t : ℕ) → suc t - 1 ≡ t
 less t = omega arith

@@ -5,8 +5,7 @@ use mathlib.Core.Path.{◌≡◌, refl, sym, ap, ◌∙◌}
 use mathlib.Core.Bool.{Bool, true, false, cond}
 use mathlib.Core.List.{List, [], ◌∷◌, ◌++◌}
 use Rattle.std.specs.Prelude.{Option, None, Some}
-use lib.ListN.{length, take, drop, get_or}
-use lib.Seq.{drop-cons}
+use lib.ListN.{length, drop, get_or}
 use borrow.Author.Tests.{lt-leb}
 use Rattle.memory.specs.Block.{block, same, same_blocks}
 use Rattle.memory.proofs.Blocks.{eq_same, same_true, same_blocks_in, same_blocks-true, same_bytes_in}
@@ -17,6 +16,7 @@ use Rattle.language.specs.Charge.{arguments_price}
 use Rattle.machine.specs.Walks.{mark, behind, is_text, chosen_from, compare}
 use Rattle.machine.specs.Items.{encode_arguments}
 use Rattle.machine.proofs.Finds.{first_of, argument_at, argument_behind, argument_past}
+use Rattle.machine.proofs.Lists.{block-cons}
 use Rattle.machine.proofs.Naming.{TextAt, argument_text, same_is}
 
 -- What is shown ------------------------------------------------------------------------------------------------------
@@ -33,13 +33,6 @@ alike : (x y : Bool) → (x ≡ true → y ≡ true) → (y ≡ true → x ≡ t
 alike true y f g = sym (f refl)
 alike false true f g = g refl
 alike false false f g = refl
-
--- a block by its first cell and the others
-block-cons : (p k : ℕ) (l : List ℕ) → p < length l → block p (k + 1) l ≡ get_or l p 0 ∷ block (p + 1) k l
-block-cons p k l h =
-    let e : k + 1 ≡ suc k = omega arith in
-    let e₂ : suc p ≡ p + 1 = omega arith in
-    ap (λ (j : ℕ). block p j l) e ∙ ap (take (suc k)) (drop-cons l p 0 h) ∙ ap (λ (j : ℕ). get_or l p 0 ∷ take k (drop j l)) e₂
 
 -- the code compares length and bytes at once, and comes to what SEQ asks
 pub compare_is : {l : List ℕ} {p q : ℕ} {a b : Bytes} → TextAt l p a → TextAt l q b → compare l p q ≡ cond (D.same a b) 1 0

@@ -1,5 +1,5 @@
 -- Where each byte of the output came from: what `go_on` promises beside `Moves`, and what its functions do.
-use Rattle.std.specs.Prelude.{Option, None, Some, ℕ, ◌+◌, ◌-◌, ◌<◌, ◌≡◌, Bool, true, false, cond, List, length, get_or, eqb, ltb}
+use Rattle.std.specs.Prelude.{Option, None, Some, ℕ, ◌+◌, ◌-◌, ◌<◌, ◌≡◌, Bool, true, false, cond, List, length, eqb, ltb}
 use Rattle.memory.specs.Block.{placed, filled}
 use Rattle.language.specs.declared.rules.Rule.{Rule}
 use Rattle.language.specs.declared.rules.Rule.TheVariants.{CopiedFromText, CopiedFromBody, Fetched, GivenByVal, GivenByBuiltIn}
