@@ -27,9 +27,9 @@ use Rattle.language.proofs.Demand.{built_ins_free, demand3, substitutes}
 use Rattle.machine.specs.declared.run.Stepped.{Stepped}
 use Rattle.machine.specs.declared.run.Answer.{Answer}
 use Rattle.machine.specs.declared.run.Answer.TheVariants.{GoesOn, Ended, Damaged, Refused}
-use Rattle.machine.specs.Machine.{fresh, last_scan, outcome_in}
+use Rattle.machine.specs.Machine.{fresh, last_scan}
 use Rattle.machine.specs.Index.{no_heads}
-use Rattle.machine.specs.Held.{next_position, next_list, definition_at, definitions_held_from, shown, standing_of, Shows}
+use Rattle.machine.specs.Held.{next_position, next_list, definition_at, definitions_held_from, shown, standing_of, outcome_in, Shows}
 use Rattle.machine.specs.Moving.{Comes, Moves}
 use Rattle.machine.proofs.Fresh.{fresh_holds}
 use Rattle.machine.proofs.Advancing.{range_in}

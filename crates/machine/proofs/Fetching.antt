@@ -22,11 +22,11 @@ use Rattle.language.specs.Octets.{Octets}
 use Rattle.memory.specs.Block.{block, low_bytes}
 use Rattle.memory.proofs.Blocks.{block_at, take-low_bytes, drop-low_bytes, low_bytes_of_bytes}
 use Rattle.machine.specs.declared.run.Run.{Run}
-use Rattle.machine.specs.Walks.{mark, head_size, name_length, arguments_from, value_length}
+use Rattle.machine.specs.Walks.{nowhere, mark, head_size, name_length, arguments_from, value_length}
 use Rattle.machine.specs.Machine as M
 use Rattle.machine.proofs.Moves.{Reader, reader_of}
 use Rattle.machine.proofs.Represents.{Simulates}
-use Rattle.machine.proofs.Finds.{HoldsItems, at_cells, Listed, list_cells, argument_at, argument_past}
+use Rattle.machine.proofs.Finds.{HoldsItems, at_cells, Listed, list_cells, argument_at, taken_below, argument_past}
 use Rattle.machine.proofs.Putting.{refusal, copy_block}
 use Rattle.machine.proofs.Counting.{advanced}
 use Rattle.machine.specs.Items.{encode, encode_arguments}
@@ -129,11 +129,15 @@ module _ {n : ℕ} {older : List Definition} {heads whole start : List ℕ} {r :
       priced : arguments_price B.list ≤ 65536
       priced = omega (arith, listed.within, h.cells_lent)
 
+      elsewhere : k < length B.list → r.source.list + arguments_from + arguments_price (take k B.list) ≡ nowhere → ⊥
+      elsewhere short z = omega (arith, taken_below k B.list short, listed.within, h.cells_lent, list_eq)
+
       go : (t : Bool) → ltb k (length B.list) ≡ t
           → Simulates n older heads whole start (M.fetch_number r (Some k) (lent l o))
           (S.fetch_supplied (limits_of n (length start)) t (parameter k B.list) (S.with_bodies (S.with_rest rest B ∷ Bs) s))
       go true z =
-          let at = argument_at l (r.source.list + arguments_from) B.list more k c priced (ltb-true k (length B.list) z) in
+          let short = ltb-true k (length B.list) z in
+          let at = argument_at l (r.source.list + arguments_from) B.list more k c priced (elsewhere short) short in
           let p = at.at in
           let a = at.is in
           let bs = parameter k B.list in

@@ -80,16 +80,17 @@ pub record Supplied (l : List ℕ) (p : ℕ) (args : List Bytes) (k : ℕ) : Typ
   pub found : argument l p k ≡ Some at
   pub is : ArgumentAt l p args k at
 
--- an argument is found
+-- an argument is found, unless its place is nowhere
 pub argument_at : (l : List ℕ) (p : ℕ) (args : List Bytes) (rest : List ℕ) (k : ℕ)
-    → drop p l ≡ encode_arguments args ++ (mark ∷ rest) → arguments_price args ≤ 65536 → k < length args → Supplied l p args k
+    → drop p l ≡ encode_arguments args ++ (mark ∷ rest) → arguments_price args ≤ 65536 → (p + arguments_price (take k args) ≡ nowhere → ⊥) → k < length args
+    → Supplied l p args k
 unfolding arguments_price argument
-argument_at l p [] rest k e small h = absurd (omega arith)
-argument_at l p (a ∷ args) rest zero e small h =
+argument_at l p [] rest k e small elsewhere h = absurd (omega arith)
+argument_at l p (a ∷ args) rest zero e small elsewhere h =
     let f = first_of l p a args (mark ∷ rest) e in
     record {
       at = p;
-      found = rw (lt-leb mark (get_or l p 0) (omega arith));
+      found = rw (lt-leb mark (get_or l p 0) (omega arith), ne_eqb p nowhere (λ (z : p ≡ nowhere). elsewhere (omega arith)));
       is = record {
         place = omega arith;
         counted = f.counted;
@@ -97,25 +98,40 @@ argument_at l p (a ∷ args) rest zero e small h =
         within = omega arith;
       };
     }
-argument_at l p (a ∷ args) rest (suc k) e small h =
+argument_at l p (a ∷ args) rest (suc k) e small elsewhere h =
     let f = first_of l p a args (mark ∷ rest) e in
-    let r = argument_at l (p + (length a + 1)) args rest k f.behind (omega arith) (omega arith) in
+    let r = argument_at l (p + (length a + 1)) args rest k f.behind (omega arith) (λ z. elsewhere (omega arith)) (omega arith) in
     record {
       at = r.at;
       found = rw (lt-leb mark (get_or l p 0) (omega arith), f.counted) r.found;
       is = record { place = omega (arith, r.is.place); counted = r.is.counted; bytes = r.is.bytes; within = omega (arith, r.is.within) };
     }
 
+-- an argument takes up a cell at least, so the place of one lies before the end of all
+pub taken_below : (k : ℕ) (args : List Bytes) → k < length args → arguments_price (take k args) < arguments_price args
+unfolding arguments_price
+taken_below k [] h = absurd (omega arith)
+taken_below zero (a ∷ args) h = omega arith
+taken_below (suc k) (a ∷ args) h = omega (arith, taken_below k args (omega arith))
+
 -- the first parameter stands behind the name
 pub argument_behind : (l : List ℕ) (p : ℕ) (args : List Bytes) (rest : List ℕ)
     → drop p l ≡ encode_arguments args ++ (mark ∷ rest) → arguments_price args ≤ 65536 → 1 < length args → ArgumentAt l p args 1 (behind l p)
 unfolding arguments_price
 argument_behind l p [] rest e small h = absurd (omega arith)
-argument_behind l p (a ∷ args) rest e small h =
-    let f = first_of l p a args (mark ∷ rest) e in
-    let r = argument_at l p (a ∷ args) rest 1 e small h in
-    let same : r.at ≡ behind l p = omega (arith, r.is.place, f.counted) in
-    subst (ArgumentAt l p (a ∷ args) 1) same r.is
+argument_behind l p (a ∷ []) rest e small h = absurd (omega arith)
+argument_behind l p (a ∷ b ∷ args) rest e small h =
+    let f = first_of l p a (b ∷ args) (mark ∷ rest) e in
+    let q = p + (length a + 1) in
+    let g = first_of l q b args (mark ∷ rest) f.behind in
+    let same : q ≡ behind l p = omega (arith, f.counted) in
+    subst (ArgumentAt l p (a ∷ b ∷ args) 1) same
+    (record {
+      place = omega arith;
+      counted = g.counted;
+      bytes = block_of l b (encode_arguments args ++ (mark ∷ rest)) (q + 1) g.bytes;
+      within = omega arith;
+    })
 
 -- behind the last argument there is none
 pub argument_past : (l : List ℕ) (p : ℕ) (args : List Bytes) (rest : List ℕ) (k : ℕ)

@@ -35,6 +35,13 @@ newest_above n g (defined f name value spare ∷ its) h =
 newest_above n g (listed to links reader list ∷ its) h =
     omega (arith, newest_above n g its h, width-cons (listed to links reader list) its)
 
+-- what is older is linked
+pub linked_older : (n : ℕ) (since under : List Item) → Linked n (since ++ under) → Linked n under
+unfolding Linked
+linked_older n [] under h = h
+linked_older n (defined f name value spare ∷ since) under h = linked_older n since under h.1
+linked_older n (listed to links reader list ∷ since) under h = linked_older n since under h
+
 -- a head that is set anew is that of its group, and the others are as they were
 head_set : (heads : List ℕ) (n k v : ℕ) (now before : ℕ → ℕ) → length heads ≡ groups → k < groups
     → v ≡ now k → ((g : ℕ) → (k ≡ g → ⊥) → before g ≡ now g)

@@ -4,7 +4,7 @@ use native.Mathlib.Omega.{arith}
 use mathlib.Core.Path.{◌≡◌, refl, sym, ap, subst, ◌∙◌}
 use mathlib.Core.Bool.{Bool, true, false, cond, true≢false}
 use mathlib.Core.List.{List, [], ◌∷◌, ◌++◌, append-nil}
-use lib.ListN.{length, drop, get_or, length-append}
+use lib.ListN.{length, take, drop, get_or, length-append}
 use lib.Seq.{drop-drop, drop_at}
 use lib.Dec.{ltb}
 use borrow.Author.Tests.{ltb-true, ltb-false}
@@ -35,12 +35,12 @@ use Rattle.language.proofs.Demand.{built_ins_free}
 use Rattle.memory.specs.Block.{block, placed, moved, copied, low_bytes}
 use Rattle.memory.proofs.Blocks.{moved_in, copied_in, length-low_bytes}
 use Rattle.machine.specs.declared.run.Run.{Run}
-use Rattle.machine.specs.Walks.{head_size, name_length, behind, argument, chosen, newest, is_read, compare, calculate, with_lock, room, with_value_length}
+use Rattle.machine.specs.Walks.{nowhere, head_size, name_length, behind, argument, chosen, newest, is_read, compare, calculate, with_lock, room, with_value_length}
 use Rattle.machine.specs.Machine as M
 use Rattle.machine.proofs.Items.{encode-append, width-append}
 use Rattle.machine.proofs.Moves.{made_all, made_laid, made_bodies, made_valid}
 use Rattle.machine.proofs.Represents.{Simulates, SimulatesIndexed, goes, output_size}
-use Rattle.machine.proofs.Finds.{HoldsItems, Defines, DefinitionAt, definition_at_lem, ArgumentAt, Supplied, argument_at, argument_behind, argument_past, Newest, absent, present, newest_finds, is_read_finds}
+use Rattle.machine.proofs.Finds.{HoldsItems, Defines, DefinitionAt, definition_at_lem, ArgumentAt, Supplied, argument_at, taken_below, argument_behind, argument_past, Newest, absent, present, newest_finds, is_read_finds}
 use Rattle.machine.proofs.Fetching.{block-low, each}
 use Rattle.machine.proofs.Altering.{alter, alter_items, alter_definitions_lem, alter_index, alter_append, alter_width, alter_count, alter_laid, alter_lefts, alter_calls, alter_bodies, KeepsRead, alter_valid, Spot, spot_of, stored, Fits, alter_definitions, Alters, update_alters, lock_alters, alter_size, alter_high, alter_low}
 use Rattle.machine.proofs.Naming.{TextAt, argument_text, named_of, Own, unknown, known, built_ins_only, built_in_named_is, calculate_is}
@@ -131,9 +131,13 @@ module _ {n : ℕ} {heads whole start : List ℕ} {r : Run} {l o : List ℕ} {s 
   priced : arguments_price list ≤ 65536
   priced = omega (arith, a.left_is, a.room, a.lies.stands.right, a.cells_lent)
 
+  -- no argument stands at nowhere
+  elsewhere : (k : ℕ) → k < length list → name + arguments_price (take k list) ≡ nowhere → ⊥
+  elsewhere k h e = omega (arith, taken_below k list h, a.left_is, a.room, a.lies.stands.right, a.cells_lent)
+
   -- argument k of the call, in the cells
   argument_is : (k : ℕ) → k < length list → Supplied l name list k
-  argument_is k h = argument_at l name list (drop (r.calls.left + 1) l) k (arguments_at a) priced h
+  argument_is k h = argument_at l name list (drop (r.calls.left + 1) l) k (arguments_at a) priced (elsewhere k h) h
 
   argument_not : (k : ℕ) → length list ≤ k → argument l name k ≡ None
   argument_not k h = argument_past l name list (drop (r.calls.left + 1) l) k (arguments_at a) priced h

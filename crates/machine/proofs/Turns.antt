@@ -33,7 +33,7 @@ module _ (l : List ℕ) where
   unfolding argument
   argument_turn p k i h = rw (left k i h)
 
-  pub argument_done : (p k i : ℕ) → k ≤ i → argument l p (k - i) ≡ cond (leb mark (get_or l p 0)) None (Some p)
+  pub argument_done : (p k i : ℕ) → k ≤ i → argument l p (k - i) ≡ cond (leb mark (get_or l p 0)) None (cond (eqb p nowhere) None (Some p))
   unfolding argument
   argument_done p k i h = rw (none_left k i h)
 

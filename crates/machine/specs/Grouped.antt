@@ -10,8 +10,8 @@ use Rattle.language.specs.BuiltIns.{built_ins}
 use Rattle.language.specs.Scanning.{Step, next, stop}
 use Rattle.machine.specs.declared.run.Answer.TheVariants.{GoesOn}
 use Rattle.machine.specs.Walks.{size, newest}
-use Rattle.machine.specs.Machine.{outcome_in, Indexed}
-use Rattle.machine.specs.Held.{definition_at, group_held}
+use Rattle.machine.specs.Machine.{Indexed}
+use Rattle.machine.specs.Held.{outcome_in, definition_at, group_held}
 
 -- what stands at a position that a lookup came to, or what it came to where it found none
 abbrev pub content_at : List ℕ → Option ℕ → Option Content → Option Content

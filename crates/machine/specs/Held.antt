@@ -1,18 +1,21 @@
 -- Lent memory and a run that hold a standing of the language.
-use Rattle.std.specs.Prelude.{Some}
+use Rattle.std.specs.Prelude.{Option, None, Some}
 use Rattle.std.specs.Prelude.{ℕ, zero, suc, ◌+◌, ◌≤◌, ◌≡◌, cond, List, [], ◌∷◌, ◌++◌, length, take, drop, get_or, eqb, leb}
 use Rattle.memory.specs.Block.{block}
 use Rattle.language.specs.Signs.{cells_limit}
+use Rattle.language.specs.Outcomes.{number_of}
 use Rattle.language.specs.Definitions.{Definition, macro}
 use Rattle.language.specs.Ends.{End}
 use Rattle.language.specs.Scanning.{State, Standing}
 use Rattle.language.specs.Expansion.{Lent}
 use Rattle.machine.specs.declared.run.Run.{Run}
+use Rattle.machine.specs.declared.run.Answer.{Answer}
+use Rattle.machine.specs.declared.run.Answer.TheVariants.{GoesOn, Ended, Damaged, Refused}
 use Rattle.machine.specs.Walks.{head_size, list_overhead, high, low, is_locked, name_length, room, value_length, size, list_link, group_link}
 use Rattle.machine.specs.Items.{Item, encode, width, definitions_of, count}
 use Rattle.machine.specs.Index.{Index}
 use Rattle.machine.specs.Frames.{Places, Frame, items, places, lefts, calls, bodies, Valid}
-use Rattle.machine.specs.Machine.{outcome_in, After}
+use Rattle.machine.specs.Machine.{After}
 
 -- The definitions in the cells ---------------------------------------------------------------------------------------
 
@@ -77,6 +80,13 @@ pub record Shows (older : List Definition) (start : List ℕ) (r : Run) (m : Len
 -- the standing that an end reports
 abbrev pub standing_of : End → Standing
 standing_of e = record { definitions = e.definitions; output = e.output; read = e.read; scans = e.scans; most = e.most }
+
+-- the number of the outcome that a run ended with
+abbrev pub outcome_in : Answer → Option ℕ
+outcome_in GoesOn = None
+outcome_in (Ended outcome) = Some (number_of outcome)
+outcome_in Damaged = None
+outcome_in Refused = None
 
 -- what a function leaves is that end
 pub record EndsAs (older : List Definition) (start : List ℕ) (a : After) (e : End) : Type 0 where

@@ -7,7 +7,7 @@ use Rattle.language.specs.declared.built_ins.BuiltIn.{BuiltIn}
 use Rattle.language.specs.declared.built_ins.BuiltIn.TheVariants.{Def, Val, Update, Arithmetic, Seq, Size, If, Lock}
 use Rattle.language.specs.Signs.{parameter_number, cells_limit, sign_of}
 use Rattle.language.specs.declared.outcomes.Outcome.{Outcome}
-use Rattle.language.specs.Outcomes.{number_of, outcome_of}
+use Rattle.language.specs.Outcomes.{outcome_of}
 use Rattle.language.specs.declared.signs.Sign.{Sign}
 use Rattle.language.specs.declared.signs.Sign.TheVariants.{Plain, Dollar, Comma, Semicolon, Tilde, Quote, Unquote}
 use Rattle.language.specs.BuiltIns.{needs}
@@ -170,13 +170,6 @@ leaves_indexed st m h = record { after = leaves st m; heads = h }
 -- the index is as it was
 abbrev pub keeping : List ℕ → After → Indexed
 keeping h a = record { after = a; heads = h }
-
--- the number of the outcome that a run ended with
-abbrev pub outcome_in : Answer → Option ℕ
-outcome_in GoesOn = None
-outcome_in (Ended outcome) = Some (number_of outcome)
-outcome_in Damaged = None
-outcome_in Refused = None
 
 -- an outcome with nothing changed
 abbrev pub ends : Outcome → Run → Lent → After

@@ -101,9 +101,9 @@ with_links l p list back = set (set l (p + 1) list) (p + 2) back
 abbrev pub behind : List ℕ → ℕ → ℕ
 behind l p = p + (get_or l p 0 + 1)
 
--- the length cell of an argument, counted from the one at p
+-- the length cell of an argument, counted from the one at p; one at nowhere is none
 unfoldable pub argument : List ℕ → ℕ → ℕ → Option ℕ
-argument l p zero = cond (leb mark (get_or l p 0)) None (Some p)
+argument l p zero = cond (leb mark (get_or l p 0)) None (cond (eqb p nowhere) None (Some p))
 argument l p (suc k) = let r = argument l (behind l p) k in cond (leb mark (get_or l p 0)) None r
 
 -- whether the argument at a length cell is exactly this text

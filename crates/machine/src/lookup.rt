@@ -22,7 +22,8 @@ pub(crate) fn argument(cells: &[u32], from: usize, index: usize) -> Option<usize
         }
         position += length as usize + 1;
     }
-    if memory::read(cells, position) >= layout::MARK {
+    // A length cell at NOWHERE is none.
+    if memory::read(cells, position) >= layout::MARK || position == Run::NOWHERE {
         return None;
     }
     Some(position)
