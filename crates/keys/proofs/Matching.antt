@@ -1,7 +1,10 @@
 -- How far the reading of the quotes has come.
-use Prim.Native.Nat.{ℕ, zero, suc, ◌+◌, ◌≤◌, ◌<◌}
+use Prim.Native.Nat.{ℕ, zero, suc, ◌+◌, ◌-◌, ◌≤◌, ◌<◌}
 use native.Mathlib.Omega.{arith}
-use mathlib.Core.Path.{◌≡◌, ap, ◌∙◌}
+use mathlib.Core.Path.{◌≡◌, refl, ap, ◌∙◌}
+use mathlib.Core.Bool.{true, false, true≢false, false≢true}
+use denote.Enum.Bare.{sameb}
+use Rattle.language.specs.contracts.signs.Sign.{the_type}
 use Rattle.std.specs.Prelude.{Option, None, Some}
 use Rattle.std.specs.Prelude.{option_and_then}
 use lib.ListN.{length, drop, get_or, drop_of_length-le}
@@ -24,6 +27,42 @@ depth_grows Tilde d k e = let h : d ≡ k = cc in omega arith
 depth_grows Quote d k e = let h : suc d ≡ k = cc in omega arith
 depth_grows Unquote zero k e = absurd (none_some e)
 depth_grows Unquote (suc d) k e = let h : d ≡ k = cc in omega arith
+
+-- what the code's tests of a sign say of the depth
+pub depth_quote : (g : Sign) (d : ℕ) → sameb the_type g Quote ≡ true → depth_by g d ≡ Some (d + 1)
+depth_quote Plain d e = absurd (false≢true e)
+depth_quote Dollar d e = absurd (false≢true e)
+depth_quote Comma d e = absurd (false≢true e)
+depth_quote Semicolon d e = absurd (false≢true e)
+depth_quote Tilde d e = absurd (false≢true e)
+depth_quote Quote d e = ap Some (omega arith)
+depth_quote Unquote d e = absurd (false≢true e)
+
+depth_unquote : (g : Sign) (d : ℕ) → sameb the_type g Unquote ≡ true → depth_by g d ≡ depth_by Unquote d
+depth_unquote Plain d e = absurd (false≢true e)
+depth_unquote Dollar d e = absurd (false≢true e)
+depth_unquote Comma d e = absurd (false≢true e)
+depth_unquote Semicolon d e = absurd (false≢true e)
+depth_unquote Tilde d e = absurd (false≢true e)
+depth_unquote Quote d e = absurd (false≢true e)
+depth_unquote Unquote d e = refl
+
+pub depth_lost : (g : Sign) (d : ℕ) → sameb the_type g Unquote ≡ true → d ≡ 0 → depth_by g d ≡ None
+depth_lost g zero e z = depth_unquote g 0 e
+depth_lost g (suc d) e z = absurd (omega (arith, z))
+
+pub depth_closed : (g : Sign) (d : ℕ) → sameb the_type g Unquote ≡ true → 0 < d → depth_by g d ≡ Some (d - 1)
+depth_closed g zero e h = absurd (omega arith)
+depth_closed g (suc d) e h = depth_unquote g (suc d) e ∙ ap Some (omega arith)
+
+pub depth_other : (g : Sign) (d : ℕ) → sameb the_type g Quote ≡ false → sameb the_type g Unquote ≡ false → depth_by g d ≡ Some d
+depth_other Plain d e f = refl
+depth_other Dollar d e f = refl
+depth_other Comma d e f = refl
+depth_other Semicolon d e f = refl
+depth_other Tilde d e f = refl
+depth_other Quote d e f = absurd (true≢false e)
+depth_other Unquote d e f = absurd (true≢false f)
 
 -- The first `done` of the wanted bytes lead to a depth, and what is read behind them decides.
 pub record Matching (T : Table) (wanted : Bytes) (done depth : ℕ) : Type 0 where

@@ -1,17 +1,16 @@
 -- The two quotes of a table, and the script in the output.
-use Prim.Native.Nat.{ℕ, zero, suc, ◌+◌, ◌-◌, ◌≤◌, ◌<◌}
+use Prim.Native.Nat.{ℕ, zero, suc, ◌+◌, ◌≤◌, ◌<◌}
 use native.Mathlib.Omega.{arith}
 use mathlib.Core.Path.{◌≡◌, refl, sym, ap, ◌∙◌}
 use mathlib.Core.Bool.{Bool, true, false, cond, true≢false}
 use mathlib.Core.List.{[], ◌∷◌, ◌++◌}
 use lib.ListN.{length, drop, get_or, set}
 use lib.Dec.{eqb}
-use lib.Seq.{drop-cons}
-use borrow.Rule.Slice.PartMut.{put_mid}
-use Rattle.std.proofs.Common.{length-append, append_assoc}
-use Rattle.std.proofs.lemmas.List.{set_at}
+use lib.Seq.{take-length}
 use Rattle.std.specs.Prelude.{Option, None, Some, MatchOption, unwrap_or}
 use borrow.Author.Tests.{eqb-true, eqb-false, eq-eqb}
+use Rattle.memory.specs.Block.{copied}
+use Rattle.memory.proofs.Blocks.{copied_in, placed_before, placed-after}
 use Rattle.language.specs.Signs.{Bytes, Table}
 use Rattle.language.specs.Refusals.{has_kind, AcceptedTable}
 use Rattle.language.specs.Expansion.{overwritten}
@@ -74,20 +73,19 @@ module _ (T : Table) (accepted : AcceptedTable T) (kind : ℕ) (least : 1 ≤ ki
 
 -- The script in the output -----------------------------------------------------------------------------------------------
 
--- bytes that took the place of as many, and one put behind them
-put_behind : (wanted rest : Bytes) (u : ℕ) → length wanted < length rest
-    → set (wanted ++ drop (length wanted) rest) (length wanted) u ≡ (wanted ++ (u ∷ [])) ++ drop (length (wanted ++ (u ∷ []))) rest
-put_behind wanted rest u h =
-    let n = length wanted in
-    let e : length (wanted ++ (u ∷ [])) ≡ suc n = omega (arith, length-append wanted (u ∷ [])) in
-    rw (drop-cons rest n 0 h, set_at wanted (get_or rest n 0) (drop (suc n) rest) u n refl, e) (sym (append_assoc wanted (u ∷ []) (drop (suc n) rest)))
+-- bytes copied to the second place, then one put before them and one behind
+quoted_bytes : (q u : ℕ) (wanted output : Bytes) → length wanted + 2 ≤ length output
+    → set (set (copied 0 1 (length wanted) wanted output) 0 q) (length wanted + 1) u ≡ overwritten (q ∷ (wanted ++ (u ∷ []))) output
+quoted_bytes q u wanted output h =
+    let next : length wanted + 1 ≡ 0 + length (q ∷ wanted) = omega arith in
+    let all : 0 + length (q ∷ (wanted ++ (u ∷ []))) ≡ length (q ∷ (wanted ++ (u ∷ []))) = omega arith in
+    rw (copied_in 0 1 (length wanted) wanted output (omega arith) (omega arith), take-length wanted, placed_before 0 wanted output q (omega arith), next)
+    (placed-after 0 (q ∷ wanted) output u (omega arith) ∙ ap (λ (n : ℕ). (q ∷ (wanted ++ (u ∷ []))) ++ drop n output) all)
 
--- so with one more before them the output has become the script
-pub written-script : (T : Table) (wanted output : Bytes) {q u : ℕ} {copied : Bytes} → length wanted + 2 ≤ length output
-    → q ≡ byte_of T quote_kind → copied ≡ wanted → u ≡ byte_of T unquote_kind
-    → set (put_mid 1 (length wanted + 1 - 1) (set output 0 q) copied) (length wanted + 1) u ≡ overwritten (script T wanted) output
-written-script T wanted [] h e₁ e₂ e₃ = absurd (omega arith)
-written-script T wanted (x ∷ rest) h e₁ e₂ e₃ =
-    let next : length wanted + 1 ≡ suc (length wanted) = omega arith in
-    let inner : length wanted + 1 - 1 ≡ length wanted = omega arith in
-    rw (e₁, e₂, e₃, inner, next) (ap (λ (l : Bytes). byte_of T quote_kind ∷ l) (put_behind wanted rest (byte_of T unquote_kind) (omega arith)))
+-- so the output has become the script
+pub written-script : (T : Table) (wanted output : Bytes) {o₁ o₂ o₃ : Bytes} {q u : ℕ} → length wanted + 2 ≤ length output
+    → o₁ ≡ copied 0 1 (length wanted) wanted output → q ≡ byte_of T quote_kind → o₂ ≡ set o₁ 0 q
+    → u ≡ byte_of T unquote_kind → o₃ ≡ set o₂ (length wanted + 1) u
+    → o₃ ≡ overwritten (script T wanted) output
+written-script T wanted output h e₁ q e₂ u e₃ =
+    rw (e₃, u, e₂, q, e₁) (quoted_bytes (byte_of T quote_kind) (byte_of T unquote_kind) wanted output h)

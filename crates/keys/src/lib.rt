@@ -4,7 +4,7 @@
 ghost use Rattle.std.specs.Prelude.{◌≡◌, ◌+◌, ◌≤◌, ◌<◌, length, IfOk};
 ghost use Rattle.language.specs.Refusals.{refused_by, refusal_in};
 ghost use Rattle.language.specs.Signs.{kind_of};
-ghost use Rattle.language.specs.Matched.{depth_by, depth_after};
+ghost use Rattle.language.specs.Matched.{depth_after};
 ghost use Rattle.language.specs.Expansion.{overwritten};
 ghost use Rattle.keys.specs.Scripts.{asked, answered_in, byte_of, script, too_long, matched, script_refusals, refusals, Scripted};
 
@@ -65,38 +65,32 @@ fn quotes_match(table: &[u8; 256], wanted: &[u8]) -> bool
     depth_after(table, wanted) == Some(0)
 }
 
-// The depth of quotes after bytes, where every unquote closes a quote.
+// The depth of quotes after bytes, where every unquote closes a quote. Comparisons in a row keep the compiled loop short.
 fn depth_after(table: &[u8; 256], bytes: &[u8]) -> Option<usize>
     ensures { result ≡ depth_after table.now 0 bytes.now }
 {
-    let mut depth = 0;
+    let mut depth: usize = 0;
     for &byte in bytes {
         let sign = Sign::from(table[usize::from(byte)]);
-        depth = depth_by(sign, depth)?;
+        if sign == Sign::Quote {
+            depth += 1;
+        } else if sign == Sign::Unquote {
+            if depth == 0 {
+                return None;
+            }
+            depth -= 1;
+        }
     }
     Some(depth)
-}
-
-// The depth after one sign more.
-fn depth_by(sign: Sign, depth: usize) -> Option<usize>
-    requires { depth < usize.MAX }
-    ensures { result ≡ depth_by sign depth }
-{
-    match sign {
-        Sign::Quote => Some(depth + 1),
-        Sign::Unquote => depth.checked_sub(1),
-        _ => Some(depth),
-    }
 }
 
 fn write_script(table: &[u8; 256], wanted: &[u8], output: &mut [u8])
     requires { length wanted.now + 2 ≤ length output.old }
     ensures { output.new ≡ overwritten (script table.now wanted.now) output.old }
 {
-    let end = wanted.len() + 1;
-    output[0] = byte_of(table, Sign::Quote);
-    output[1..end].copy_from_slice(wanted);
-    output[end] = byte_of(table, Sign::Unquote);
+    memory::copy_bytes(wanted, output, 1, wanted.len());
+    memory::write_byte(output, 0, byte_of(table, Sign::Quote));
+    memory::write_byte(output, wanted.len() + 1, byte_of(table, Sign::Unquote));
 }
 
 // The byte of a sign.

@@ -8,8 +8,8 @@ use native.Mathlib.Omega.{arith}
 use native.Mathlib.Nat.{mod-eq_of_lt}
 use native.Mathlib.Numerals.{add-one}
 use borrow.Author.Tests.{le-leb, lt-leb, leb-true, eqb-true, eq-eqb}
-use lib.ListN.{length, take, drop, get_or, set, replicate, length-append, length-drop, take-append-drop, drop_of_length-le}
-use lib.Seq.{drop-cons, take-suc, take-suc-set, take-set-lt, set-append_left, set_at, get_or-take, get_or-drop, take_at, drop_at, drop-drop, length-take-le, take_all}
+use lib.ListN.{length, take, drop, get_or, set, replicate, length-set, length-append, length-drop, take-append-drop, drop_of_length-le}
+use lib.Seq.{drop-cons, take-suc, take-suc-set, take-set-lt, set-append_left, set_at, get_or-set_same, drop-set-lt, get_or-take, get_or-drop, take_at, drop_at, drop-drop, length-take-le, take_all}
 use lib.Dec.{eqb, leb}
 use Rattle.std.specs.Bool.{Decides}
 use Rattle.std.proofs.lemmas.Bool.Decides.{same_from_decides}
@@ -26,6 +26,12 @@ and_true true b e = (refl, e)
 and_true false b e = absurd (false≢true e)
 
 -- ---- a store
+
+-- what a store leaves from its position on
+pub drop-set_here : (l : List ℕ) (i v : ℕ) → i < length l → drop i (set l i v) ≡ v ∷ drop (i + 1) l
+drop-set_here l i v h =
+    let h' : i < length (set l i v) = simp length-set (omega arith) in
+    drop-cons (set l i v) i 0 h' ∙ rw (add-one, get_or-set_same l i v 0 h, drop-set-lt (suc i) l i v (omega arith))
 
 -- what a store leaves up to and with its position
 pub take-set_here : (l : List ℕ) (i v : ℕ) → i < length l → take (i + 1) (set l i v) ≡ take i l ++ v ∷ []
@@ -253,6 +259,10 @@ pointwise_same (x ∷ a) (y ∷ b) = rw (pointwise_same a b)
 pub decided_same : (a b : List ℕ) (r : Bool) → Decides r (a ≡ b) → r ≡ same a b
 decided_same a b r d = same_from_decides r (same a b) d (same_true a b, eq_same a b)
 
+-- lists that differ at one position fail the test
+pub differ_same : (a b : List ℕ) (k : ℕ) → (get_or a k 0 ≡ get_or b k 0 → ⊥) → same a b ≡ false
+differ_same a b k h = ne_same a b (λ e. h (ap (λ (l : List ℕ). get_or l k 0) e))
+
 -- where both blocks lie within the list, the blocks are compared
 pub same_blocks_in : (first second count : ℕ) (l : List ℕ) → first + count ≤ length l → second + count ≤ length l → same_blocks first second count l ≡ same (block first count l) (block second count l)
 same_blocks_in first second count l hf hs = rw (le-leb (first + count) (length l) hf, le-leb (second + count) (length l) hs)
@@ -283,6 +293,10 @@ same_bytes_count from count bytes l h = false_of (same_bytes from count bytes l)
     other e =
         let w = same_bytes-true from count bytes l e in
         h (sym (block-length from count l w.0) ∙ ap length w.1)
+
+-- where the bytes are as many as the count, all of them are compared
+pub same_bytes_whole : (from count : ℕ) (bytes l : List ℕ) → from + count ≤ length l → count ≡ length bytes → same_bytes from count bytes l ≡ same (block from count l) (block 0 count bytes)
+same_bytes_whole from count bytes l h e = same_bytes_in from count bytes l h ∙ ap (same (block from count l)) (sym (take_all count bytes (omega arith)))
 
 -- ---- repeated
 

@@ -93,12 +93,12 @@ fn copy_converted<S: Copy, T: Copy, F: Fn(S) -> T>(source: &[S], target: &mut [T
     }
 }
 
-// The first bytes to the bytes of an output.
+// The first bytes to the bytes of an output. The library's copy of a slice would ask every C program for `memmove`.
 pub fn copy_bytes(bytes: &[u8], output: &mut [u8], to: usize, count: usize)
     ensures { output.new ≡ copied 0 to count bytes.now output.old }
 {
     if both_lie(0, bytes.len(), to, output.len(), count) {
-        output[to..to + count].copy_from_slice(&bytes[..count]);
+        copy_converted(&bytes[..count], &mut output[to..to + count], |byte| byte);
     }
 }
 
@@ -143,9 +143,9 @@ pub fn fill(cells: &mut [u32], to: usize, count: usize, value: u32)
 }
 
 // All cells zero.
-#[tactic(auto, using(crate::proofs::Blocks::replicate_repeated))]
 pub fn clear(cells: &mut [u32])
     ensures { cells.new ≡ repeated (length cells.old) 0 }
 {
-    cells.fill(0);
+    let count = cells.len();
+    fill(cells, 0, count, 0);
 }
