@@ -64,17 +64,23 @@ fn sign_not_one_byte(table: &[u8; 256]) -> bool
 fn bytes_of(table: &[u8; 256], kind: u8) -> usize
     ensures { result ≡ count_below 256 (has_kind table.now kind) }
 {
-    table.iter().filter(|&&of| of == kind).count()
+    let mut count = 0;
+    for &of in table {
+        if of == kind {
+            count += 1;
+        }
+    }
+    count
 }
 
-// A letter, a digit, `+`, `-` or `*` with a kind other than 0.
+// A letter, a digit, `+`, `-` or `*` with a kind other than 0. Few entries are, so that is asked first.
 fn reserved_sign(table: &[u8; 256]) -> bool
     ensures { result ≡ reserved_sign table.now }
 {
     table
         .iter()
         .enumerate()
-        .any(|(byte, &kind)| is_reserved(byte as u8) && kind != 0)
+        .any(|(byte, &kind)| kind != 0 && is_reserved(byte as u8))
 }
 
 // The bytes of built-in names, of numbers and of parameters after `~`.
