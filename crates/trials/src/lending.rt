@@ -65,7 +65,7 @@ impl<'a> Run<'a> {
 
     // Whether `expand_signs` does.
     pub(crate) fn is_right_with(self, signs: &[u8]) -> bool {
-        let mut room: [u8; SIGNS_ROOM] = pattern::bytes();
+        let mut room = [0; SIGNS_ROOM];
         let Some(signs) = laid(signs, &mut room) else {
             return false;
         };
@@ -78,8 +78,10 @@ impl<'a> Run<'a> {
     pub(crate) fn is_right_by<F: FnOnce(&mut [u32], &mut [u8]) -> Report>(self, call: F) -> bool
         requires { F.IsAlwaysCallable call }
     {
-        let mut cells: [u32; CELLS_ROOM] = pattern::cells();
-        let mut bytes: [u8; OUTPUT_ROOM] = pattern::bytes();
+        let mut cells = [0; CELLS_ROOM];
+        let mut bytes = [0; OUTPUT_ROOM];
+        pattern::fill(&mut cells);
+        pattern::fill(&mut bytes);
         let (Some(lent_cells), Some(lent_output)) = (
             part(&mut cells, self.lent.cells),
             part(&mut bytes, self.lent.output),
@@ -120,6 +122,7 @@ pub(crate) fn part<T>(room: &mut [T], len: usize) -> Option<&mut [T]>
 
 // The signs as a part of a larger array, in which nothing beside them is a kind.
 pub(crate) fn laid<'a>(signs: &[u8], room: &'a mut [u8]) -> Option<&'a [u8]> {
+    pattern::fill(room);
     let part = part(room, signs.len())?;
     part.copy_from_slice(signs);
     Some(part)
@@ -127,13 +130,15 @@ pub(crate) fn laid<'a>(signs: &[u8], room: &'a mut [u8]) -> Option<&'a [u8]> {
 
 // Whether the output stands at the start of the lent part and all else is as before.
 pub(crate) fn output_is_right(bytes: &[u8; OUTPUT_ROOM], output: &[u8]) -> bool {
-    let before: [u8; OUTPUT_ROOM] = pattern::bytes();
+    let mut before = [0; OUTPUT_ROOM];
+    pattern::fill(&mut before);
     bytes[MARGIN..].starts_with(output) && is_around(bytes, &before, output.len())
 }
 
 // Whether the lent cells are zero, or as before where the call is refused, and all others as before.
 fn cells_are_right(cells: &[u32; CELLS_ROOM], lent: usize, outcome: u64) -> bool {
-    let before: [u32; CELLS_ROOM] = pattern::cells();
+    let mut before = [0; CELLS_ROOM];
+    pattern::fill(&mut before);
     if is_refused(outcome) {
         return *cells == before;
     }

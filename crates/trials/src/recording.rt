@@ -76,7 +76,8 @@ impl<'a> Recording<'a> {
     fn is_right_by<F: FnOnce(&mut [u8]) -> Answer>(self, signs: &[u8], call: F) -> bool
         requires { F.IsAlwaysCallable call }
     {
-        let mut bytes: [u8; OUTPUT_ROOM] = pattern::bytes();
+        let mut bytes = [0; OUTPUT_ROOM];
+        pattern::fill(&mut bytes);
         let answer = self
             .lent
             .and_then(|lent| lending::part(&mut bytes, lent))

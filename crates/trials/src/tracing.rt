@@ -46,9 +46,11 @@ fn is_right_by<F: FnOnce(&[u32; NUMBERS_ROOM], &[u32; NUMBERS_ROOM]) -> bool>(
 ) -> bool
     requires { F.IsAlwaysCallable are_right }
 {
-    let mut room: [u8; lending::SIGNS_ROOM] = pattern::bytes();
-    let mut first: [u32; NUMBERS_ROOM] = pattern::cells();
-    let mut second: [u32; NUMBERS_ROOM] = pattern::cells();
+    let mut room = [0; lending::SIGNS_ROOM];
+    let mut first = [0; NUMBERS_ROOM];
+    let mut second = [0; NUMBERS_ROOM];
+    pattern::fill(&mut first);
+    pattern::fill(&mut second);
     let (Some(signs), Some(origins), Some(rules)) = (
         lending::laid(signs, &mut room),
         lending::part(&mut first, origins),
@@ -77,6 +79,7 @@ fn are_noted(numbers: &[u32; NUMBERS_ROOM], field: &[u8], written: usize) -> boo
 }
 
 fn are_untouched_around(numbers: &[u32; NUMBERS_ROOM], written: usize) -> bool {
-    let before: [u32; NUMBERS_ROOM] = pattern::cells();
+    let mut before = [0; NUMBERS_ROOM];
+    pattern::fill(&mut before);
     written <= MOST_NUMBERS && lending::is_around(numbers, &before, written)
 }
