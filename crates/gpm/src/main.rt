@@ -13,6 +13,8 @@ ghost use Rattle.std.specs.IoError.{error_kind};
 ghost use Rattle.std.specs.Io.{ReadsAtMost};
 ghost use Rattle.std.specs.Io.KnownBytes.{Consumes, IsAtEnd, ReadConsumes};
 ghost use Rattle.io.specs.Counts.{IsPrefixLen};
+ghost use Rattle.language.specs.Outcomes;
+ghost use Rattle.expander.specs.Reports.{refused_with};
 ghost use Rattle.gpm.specs.Line.{item, report_line};
 
 use expander::Report;
@@ -48,8 +50,7 @@ fn main(rt: HostRuntime) {
     match read_input(&mut rt.stdin(), &mut text) {
         Ok(len) => run(&text[..len]),
         Err(_) => {
-            // A text that cannot be lent is refused.
-            write_report(Report::refused(Outcome::TooLarge));
+            write_report(nothing_lent());
             io::write_all(STANDARD_ERROR, b"read failed\n");
         }
     }
@@ -92,6 +93,13 @@ fn is_interrupted(got: &std::io::Result<usize>) -> bool
     ensures { IsTrue result ↔ IsErrAnd got.now (λ e. error_kind e ≡ ErrorKind.Interrupted) }
 {
     matches!(got, Err(error) if error.kind() == ErrorKind::Interrupted)
+}
+
+// The report where no whole text could be read: a text that cannot be lent is refused, "all counts 0".
+fn nothing_lent() -> Report
+    ensures { result ≡ refused_with Outcomes.too_large }
+{
+    Report::refused(Outcome::TooLarge)
 }
 
 // Runs a text, and writes the report and then the output.
