@@ -5,10 +5,8 @@ use mathlib.Core.Path.{◌≡◌, refl, sym, ap, ◌∙◌}
 use mathlib.Core.Bool.{Bool, true, false, cond, true≢false}
 use mathlib.Core.List.{[], ◌∷◌, ◌++◌}
 use lib.ListN.{length, drop, get_or, set}
-use lib.Dec.{eqb}
 use lib.Seq.{take-length}
-use Rattle.std.specs.Prelude.{Option, None, Some, MatchOption, unwrap_or}
-use borrow.Author.Tests.{eqb-true, eqb-false, eq-eqb}
+use borrow.Author.Tests.{eqb-true, eq-eqb}
 use Rattle.memory.specs.Block.{copied}
 use Rattle.memory.proofs.Blocks.{copied_in, placed_before, placed-after}
 use Rattle.language.specs.Signs.{Bytes, Table}
@@ -19,27 +17,14 @@ use Rattle.keys.specs.Scripts.{last_below, byte_of, quote_kind, unquote_kind, sc
 
 -- The byte of a kind ---------------------------------------------------------------------------------------------------
 
--- where a test holds of none the last is 0,
-last_none : (n : ℕ) (test : ℕ → Bool) → ((k : ℕ) → k < n → test k ≡ false) → 0 ≡ last_below n test
-unfolding last_below
-last_none zero test h = refl
-last_none (suc n) test h = rw (h n (omega arith)) (last_none n test (λ k below. h k (omega (arith, below))))
+module _ (n : ℕ) (test : ℕ → Bool) where
+  pub last_here : test n ≡ true → last_below (suc n) test ≡ n
+  unfolding last_below
+  last_here e = rw e refl
 
--- and where it holds of one and of none behind that, it is that one
-last_at : (n i : ℕ) (test : ℕ → Bool) → i < n → test i ≡ true → ((k : ℕ) → i < k → k < n → test k ≡ false) → i ≡ last_below n test
-unfolding last_below
-last_at zero i test h e above = absurd (omega arith)
-last_at (suc n) i test h e above = go (eqb i n) refl (λ below. last_at n i test below e (λ k behind inside. above k behind (omega (arith, inside))))
-  where
-    go : (t : Bool) → eqb i n ≡ t → (i < n → i ≡ last_below n test) → i ≡ cond (test n) n (last_below n test)
-    go true p more = let here : i ≡ n = eqb-true i n p in rw (← here, e)
-    go false p more = let below : i < n = omega (arith, eqb-false i n p) in rw (above n below (omega arith)) (more below)
-
-pub last_found : (n : ℕ) (test : ℕ → Bool) (r : Option ℕ)
-    → MatchOption r ((k : ℕ) → k < n → test k ≡ false) (λ i. (i < n) × (test i ≡ true) × ((k : ℕ) → i < k → k < n → test k ≡ false))
-    → unwrap_or r 0 ≡ last_below n test
-last_found n test None h = last_none n test h
-last_found n test (Some i) (inside, e, above) = last_at n i test inside e above
+  pub last_lower : test n ≡ false → last_below (suc n) test ≡ last_below n test
+  unfolding last_below
+  last_lower e = rw e refl
 
 -- where a test holds of some number, it holds of the last
 last_has : (n k : ℕ) (test : ℕ → Bool) → k < n → test k ≡ true → (last_below n test < n) × (test (last_below n test) ≡ true)

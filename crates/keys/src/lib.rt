@@ -25,7 +25,8 @@ pub fn script_for(signs: &[u8], wanted: &[u8], output: &mut [u8]) -> Result<u32,
     Ok(wanted.len() as u32 + 2)
 }
 
-// The table that the signs are, or the first refusal.
+// The table that the signs are, or the first refusal. The signs become a table here, so that the compiled loop over the bytes reads
+// them where they lie.
 fn check<'a>(signs: &'a [u8], wanted: &[u8], output: &[u8]) -> Result<&'a [u8; 256], Outcome>
     ensures refusal { refusal_in result ≡ refused_by (refusals (asked signs.now wanted.now output.now)) }
     ensures ok { IfOk result (λ table. table.now ≡ signs.now) }
@@ -33,7 +34,10 @@ fn check<'a>(signs: &'a [u8], wanted: &[u8], output: &[u8]) -> Result<&'a [u8; 2
     if too_long(wanted.len(), output.len()) {
         return Err(Outcome::TooLarge);
     }
-    let table = refusals::table(signs)?;
+    let Ok(table) = <&[u8; 256]>::try_from(signs) else {
+        return Err(Outcome::NotATable);
+    };
+    refusals::on_signs(signs)?;
     check_script(table, wanted, output)?;
     Ok(table)
 }
@@ -98,5 +102,10 @@ fn byte_of(table: &[u8; 256], sign: Sign) -> u8
     ensures { result ≡ byte_of table.now (kind_of sign) }
 {
     let kind = u8::from(sign);
-    table.iter().rposition(|&of| of == kind).unwrap_or(0) as u8
+    for byte in (0..256).rev() {
+        if table[byte] == kind {
+            return byte as u8;
+        }
+    }
+    0
 }
