@@ -8,8 +8,8 @@ use Rattle.std.specs.Prelude.{Option, None, Some}
 use lib.ListN.{length, take, drop}
 use lib.Seq.{take_at}
 use lib.Dec.{eqb, ltb, T as So}
-use borrow.Author.Tests.{ltb-false, lt-ltb, le-ltb, ne_eqb}
-use Rattle.language.specs.Signs.{Bytes, Table, text_limit}
+use borrow.Author.Tests.{ltb-false, lt-ltb, le-ltb}
+use Rattle.language.specs.Signs.{Bytes, text_limit}
 use Rattle.language.specs.Outcomes
 use Rattle.language.specs.Refusals.{refused_by, sign_refusals, AcceptedTable}
 use Rattle.language.specs.BuiltIns.{built_ins}
@@ -19,11 +19,6 @@ use Rattle.language.specs.Expansion.{overwritten}
 use Rattle.language.proofs.Accepted.{accepted_exactly, refused_none, refused_with, behind_none, behind_some, both_none}
 use Rattle.keys.specs.Scripts.{Asked, Answered, number_of, script, wanted_limit, too_long, matched, lent_refusals, script_refusals, refusals, answered_by, answered, NoScript, Promised, Scripted, Numbered}
 use Rattle.keys.proofs.Scripts.{script-length, is_matched, script_expands, none_exactly}
-
--- what is no table of 256 kinds
-pub refused_length : (T : Table) → (length T ≡ 256 → ⊥) → refused_by (sign_refusals T) ≡ Some Outcomes.not_a_table
-unfolding refused_by
-refused_length T h = rw (ne_eqb (length T) 256 h) refl
 
 -- no number of what is lent is 0 or 34
 abbrev OfLent : ℕ → Type 0

@@ -38,22 +38,22 @@ depth_quote Tilde d e = absurd (false≢true e)
 depth_quote Quote d e = ap Some (omega arith)
 depth_quote Unquote d e = absurd (false≢true e)
 
-depth_unquote : (g : Sign) (d : ℕ) → sameb the_type g Unquote ≡ true → depth_by g d ≡ depth_by Unquote d
-depth_unquote Plain d e = absurd (false≢true e)
-depth_unquote Dollar d e = absurd (false≢true e)
-depth_unquote Comma d e = absurd (false≢true e)
-depth_unquote Semicolon d e = absurd (false≢true e)
-depth_unquote Tilde d e = absurd (false≢true e)
-depth_unquote Quote d e = absurd (false≢true e)
-depth_unquote Unquote d e = refl
+depth_as_unquote : (g : Sign) (d : ℕ) → sameb the_type g Unquote ≡ true → depth_by g d ≡ depth_by Unquote d
+depth_as_unquote Plain d e = absurd (false≢true e)
+depth_as_unquote Dollar d e = absurd (false≢true e)
+depth_as_unquote Comma d e = absurd (false≢true e)
+depth_as_unquote Semicolon d e = absurd (false≢true e)
+depth_as_unquote Tilde d e = absurd (false≢true e)
+depth_as_unquote Quote d e = absurd (false≢true e)
+depth_as_unquote Unquote d e = refl
 
 pub depth_lost : (g : Sign) (d : ℕ) → sameb the_type g Unquote ≡ true → d ≡ 0 → depth_by g d ≡ None
-depth_lost g zero e z = depth_unquote g 0 e
+depth_lost g zero e z = depth_as_unquote g 0 e
 depth_lost g (suc d) e z = absurd (omega (arith, z))
 
-pub depth_closed : (g : Sign) (d : ℕ) → sameb the_type g Unquote ≡ true → 0 < d → depth_by g d ≡ Some (d - 1)
-depth_closed g zero e h = absurd (omega arith)
-depth_closed g (suc d) e h = depth_unquote g (suc d) e ∙ ap Some (omega arith)
+pub depth_unquote : (g : Sign) (d : ℕ) → sameb the_type g Unquote ≡ true → 0 < d → depth_by g d ≡ Some (d - 1)
+depth_unquote g zero e h = absurd (omega arith)
+depth_unquote g (suc d) e h = depth_as_unquote g (suc d) e ∙ ap Some (omega arith)
 
 pub depth_other : (g : Sign) (d : ℕ) → sameb the_type g Quote ≡ false → sameb the_type g Unquote ≡ false → depth_by g d ≡ Some d
 depth_other Plain d e f = refl

@@ -25,8 +25,7 @@ pub fn script_for(signs: &[u8], wanted: &[u8], output: &mut [u8]) -> Result<u32,
     Ok(wanted.len() as u32 + 2)
 }
 
-// The table that the signs are, or the first refusal. The signs become a table here, so that the compiled loop over the bytes reads
-// them where they lie.
+// The table that the signs are, or the first refusal.
 fn check<'a>(signs: &'a [u8], wanted: &[u8], output: &[u8]) -> Result<&'a [u8; 256], Outcome>
     ensures refusal { refusal_in result ≡ refused_by (refusals (asked signs.now wanted.now output.now)) }
     ensures ok { IfOk result (λ table. table.now ≡ signs.now) }
@@ -34,10 +33,7 @@ fn check<'a>(signs: &'a [u8], wanted: &[u8], output: &[u8]) -> Result<&'a [u8; 2
     if too_long(wanted.len(), output.len()) {
         return Err(Outcome::TooLarge);
     }
-    let Ok(table) = <&[u8; 256]>::try_from(signs) else {
-        return Err(Outcome::NotATable);
-    };
-    refusals::on_signs(signs)?;
+    let table = refusals::table(signs)?;
     check_script(table, wanted, output)?;
     Ok(table)
 }

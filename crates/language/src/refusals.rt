@@ -25,7 +25,8 @@ pub fn on_signs(signs: &[u8]) -> Result<(), Outcome>
     Ok(())
 }
 
-// The table that the signs are, or the first refusal.
+// The table that the signs are, or the first refusal. Inlined, so that a caller's loops read the signs where they lie.
+#[inline(always)]
 #[tactic(auto, unfolding(crate::specs::Refusals::refused_by))]
 pub fn table(signs: &[u8]) -> Result<&[u8; 256], Outcome>
     ensures refusal { refusal_in result ≡ refused_by (sign_refusals signs.now) }

@@ -5,7 +5,7 @@ use native.Mathlib.Omega.{arith}
 use Rattle.language.specs.declared.signs.Sign.{Sign}
 use Rattle.language.specs.Signs.{sign_of}
 use Rattle.language.specs.Matched.{depth_by}
-use Rattle.keys.proofs.Matching.{matching_step, matching_lost, matching_end, depth_quote, depth_lost, depth_closed, depth_other}
+use Rattle.keys.proofs.Matching.{matching_step, matching_lost, matching_end, depth_quote, depth_lost, depth_unquote, depth_other}
 use Rattle.keys.proofs.depth_after.Goals as goal
 use Rattle.keys.proofs.depth_after.Goals.{then-eq, else-eq+then-eq-2+else-depth-eq0, else-eq+else-eq-2}
 
@@ -22,7 +22,7 @@ loop-byte-preserved c =
     let is : depth_by (sign_of c.args.table.now (get_or c.args.bytes.now l.byte-index 0)) l.depth ≡ depth_by c.from-sign.result l.depth = ap (λ (g : Sign). depth_by g l.depth) (sym sign) in
     elim c.if-eq.branch [
       | then-eq w ↦ matching_step l.invariant (omega arith) (is ∙ depth_quote c.from-sign.result l.depth (sym c.eq.ensures ∙ w.if-eq.true) ∙ ap Some (sym w.depth-is))
-      | else-eq+then-eq-2+else-depth-eq0 w ↦ matching_step l.invariant (omega arith) (is ∙ depth_closed c.from-sign.result l.depth (sym w.eq-else-eq.ensures ∙ w.if-eq-2.true) (omega arith) ∙ ap Some (sym w.depth-is))
+      | else-eq+then-eq-2+else-depth-eq0 w ↦ matching_step l.invariant (omega arith) (is ∙ depth_unquote c.from-sign.result l.depth (sym w.eq-else-eq.ensures ∙ w.if-eq-2.true) (omega arith) ∙ ap Some (sym w.depth-is))
       | else-eq+else-eq-2 w ↦ matching_step l.invariant (omega arith) (is ∙ depth_other c.from-sign.result l.depth (sym c.eq.ensures ∙ w.if-eq.false) (sym w.eq-else-eq.ensures ∙ w.if-eq-2.false) ∙ ap Some (sym w.depth-is))
     ]
 
