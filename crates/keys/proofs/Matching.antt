@@ -2,9 +2,6 @@
 use Prim.Native.Nat.{ℕ, zero, suc, ◌+◌, ◌-◌, ◌≤◌, ◌<◌}
 use native.Mathlib.Omega.{arith}
 use mathlib.Core.Path.{◌≡◌, refl, ap, ◌∙◌}
-use mathlib.Core.Bool.{true, false, true≢false, false≢true}
-use denote.Enum.Bare.{sameb}
-use Rattle.language.specs.contracts.signs.Sign.{the_type}
 use Rattle.std.specs.Prelude.{Option, None, Some}
 use Rattle.std.specs.Prelude.{option_and_then}
 use lib.ListN.{length, drop, get_or, drop_of_length-le}
@@ -28,41 +25,25 @@ depth_grows Quote d k e = let h : suc d ≡ k = cc in omega arith
 depth_grows Unquote zero k e = absurd (none_some e)
 depth_grows Unquote (suc d) k e = let h : d ≡ k = cc in omega arith
 
--- what the code's tests of a sign say of the depth
-pub depth_quote : (g : Sign) (d : ℕ) → sameb the_type g Quote ≡ true → depth_by g d ≡ Some (d + 1)
-depth_quote Plain d e = absurd (false≢true e)
-depth_quote Dollar d e = absurd (false≢true e)
-depth_quote Comma d e = absurd (false≢true e)
-depth_quote Semicolon d e = absurd (false≢true e)
-depth_quote Tilde d e = absurd (false≢true e)
-depth_quote Quote d e = ap Some (omega arith)
-depth_quote Unquote d e = absurd (false≢true e)
+-- what a sign says of the depth
+pub depth_quote : (g : Sign) (d : ℕ) → g ≡ Quote → depth_by g d ≡ Some (d + 1)
+depth_quote g d e = rw e (ap Some (omega arith))
 
-depth_as_unquote : (g : Sign) (d : ℕ) → sameb the_type g Unquote ≡ true → depth_by g d ≡ depth_by Unquote d
-depth_as_unquote Plain d e = absurd (false≢true e)
-depth_as_unquote Dollar d e = absurd (false≢true e)
-depth_as_unquote Comma d e = absurd (false≢true e)
-depth_as_unquote Semicolon d e = absurd (false≢true e)
-depth_as_unquote Tilde d e = absurd (false≢true e)
-depth_as_unquote Quote d e = absurd (false≢true e)
-depth_as_unquote Unquote d e = refl
+pub depth_lost : (g : Sign) (d : ℕ) → g ≡ Unquote → d ≡ 0 → depth_by g d ≡ None
+depth_lost g d e z = rw (e, z) refl
 
-pub depth_lost : (g : Sign) (d : ℕ) → sameb the_type g Unquote ≡ true → d ≡ 0 → depth_by g d ≡ None
-depth_lost g zero e z = depth_as_unquote g 0 e
-depth_lost g (suc d) e z = absurd (omega (arith, z))
-
-pub depth_unquote : (g : Sign) (d : ℕ) → sameb the_type g Unquote ≡ true → 0 < d → depth_by g d ≡ Some (d - 1)
+pub depth_unquote : (g : Sign) (d : ℕ) → g ≡ Unquote → 0 < d → depth_by g d ≡ Some (d - 1)
 depth_unquote g zero e h = absurd (omega arith)
-depth_unquote g (suc d) e h = depth_as_unquote g (suc d) e ∙ ap Some (omega arith)
+depth_unquote g (suc d) e h = rw e (ap Some (omega arith))
 
-pub depth_other : (g : Sign) (d : ℕ) → sameb the_type g Quote ≡ false → sameb the_type g Unquote ≡ false → depth_by g d ≡ Some d
-depth_other Plain d e f = refl
-depth_other Dollar d e f = refl
-depth_other Comma d e f = refl
-depth_other Semicolon d e f = refl
-depth_other Tilde d e f = refl
-depth_other Quote d e f = absurd (true≢false e)
-depth_other Unquote d e f = absurd (true≢false f)
+pub depth_other : (g : Sign) (d : ℕ) → (g ≡ Quote → ⊥) → (g ≡ Unquote → ⊥) → depth_by g d ≡ Some d
+depth_other Plain d f h = refl
+depth_other Dollar d f h = refl
+depth_other Comma d f h = refl
+depth_other Semicolon d f h = refl
+depth_other Tilde d f h = refl
+depth_other Quote d f h = absurd (f refl)
+depth_other Unquote d f h = absurd (h refl)
 
 -- The first `done` of the wanted bytes lead to a depth, and what is read behind them decides.
 pub record Matching (T : Table) (wanted : Bytes) (done depth : ℕ) : Type 0 where
